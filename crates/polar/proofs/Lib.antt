@@ -1,0 +1,17 @@
+pub mod Shapes
+pub mod Merges
+pub mod Sums
+pub mod Label
+pub mod InPlace
+pub mod SmallNodes
+pub mod Relation
+pub mod Active
+pub mod Distance
+pub mod Weights
+pub mod Weighing
+pub mod Written
+pub mod Walked
+pub mod Runs
+pub mod Minimum
+pub mod Codes
+pub mod PlanFacts

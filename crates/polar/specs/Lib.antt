@@ -1,0 +1,13 @@
+pub mod Shape
+pub mod Words
+pub mod Labels
+pub mod LabelLaws
+pub mod Marks
+pub mod Bytes
+pub mod Refusals
+pub mod Codewords
+pub mod Plans
+pub mod Preorder
+pub mod Distances
+pub mod Walks
+pub mod Lightest
