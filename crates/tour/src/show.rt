@@ -1,0 +1,43 @@
+// How the tour prints bits, marks and refusals.
+use polar::refusal::Refusal;
+use std::fmt;
+
+// Bits that come as bytes 0 and 1.
+#[derive(Drop)]
+pub struct Bits<'a>(pub &'a [u8]);
+
+pub impl fmt::Display for Bits<'_> as BitsDisplay {
+    fn fmt<W: fmt::Write>(&self, f: &mut fmt::Formatter<W>) -> fmt::Result {
+        for b in self.0 {
+            write!(f, "{b}")?;
+        }
+        Ok(())
+    }
+}
+
+// A plan's marks, 1 for an active leaf.
+#[derive(Drop)]
+pub struct Marks<'a>(pub &'a [bool]);
+
+pub impl fmt::Display for Marks<'_> as MarksDisplay {
+    fn fmt<W: fmt::Write>(&self, f: &mut fmt::Formatter<W>) -> fmt::Result {
+        for m in self.0 {
+            write!(f, "{}", u8::from(*m))?;
+        }
+        Ok(())
+    }
+}
+
+// The words for a refusal: its number, and its place where it has one.
+#[derive(Drop)]
+pub struct Refused(pub Refusal);
+
+pub impl fmt::Display for Refused as RefusedDisplay {
+    fn fmt<W: fmt::Write>(&self, f: &mut fmt::Formatter<W>) -> fmt::Result {
+        let number = self.0.number();
+        match self.0.place() {
+            Some(place) => write!(f, "refused {number} at {place}"),
+            None => write!(f, "refused {number}"),
+        }
+    }
+}
