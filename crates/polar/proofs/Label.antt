@@ -39,12 +39,12 @@ length-unlabel (node l r) c h =
     length-append (unlabel l left) (unlabel r (drop (leaves l) c)) ∙ omega arith
 
 -- from x and y joined, y is the right part, and x the left part plus y
-join-left : (x y : List Bool) (n : ℕ) → length x ≡ n → plus (take n (join x y)) (drop n (join x y)) ≡ x
+pub join-left : (x y : List Bool) (n : ℕ) → length x ≡ n → plus (take n (join x y)) (drop n (join x y)) ≡ x
 join-left x y n h =
     let p : length (plus x y) ≡ n = length-merge xor x y ∙ h in
     rw (take-at (plus x y) y n p, drop-at (plus x y) y n p) (plus-back x y)
 
-join-right : (x y : List Bool) (n : ℕ) → length x ≡ n → drop n (join x y) ≡ y
+pub join-right : (x y : List Bool) (n : ℕ) → length x ≡ n → drop n (join x y) ≡ y
 join-right x y n h = drop-at (plus x y) y n (length-merge xor x y ∙ h)
 
 pub unlabel-label : (s : Shape) (bs : List Bool) → length bs ≡ leaves s → unlabel s (label s bs) ≡ bs

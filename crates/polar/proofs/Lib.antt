@@ -12,6 +12,8 @@ pub mod Weighing
 pub mod Written
 pub mod Walked
 pub mod Runs
+pub mod Parts
 pub mod Minimum
+pub mod Dues
 pub mod Codes
 pub mod PlanFacts

@@ -14,7 +14,8 @@ use Rattle.polar.specs.declared.refusal.Refusal.{Refusal}
 use Rattle.polar.specs.declared.refusal.Refusal.the-variants.{Marks, Data, Output, ItemCount}
 use Rattle.polar.specs.Words.{trues}
 use Rattle.polar.specs.Bytes.{all-bits, bits, bytes}
-use Rattle.polar.specs.Codewords.{codeword, data-of}
+use Rattle.polar.specs.Labels.{unlabel}
+use Rattle.polar.specs.Codewords.{tree-of, codeword, data-of}
 use Rattle.polar.specs.Refusals.{Outcome, refused-if, refused-unless, length-due}
 
 abbrev pub marks-of : Plan → List Bool
@@ -55,3 +56,15 @@ Extracted ms word before answer after =
     Outcome (extract-due ms word (length before)) answer
     (λ k. (k ≡ trues ms) × (after ≡ bytes (data-of ms (bits word)) ++ drop k before))
     (after ≡ before)
+
+-- The same from bits that are lent and become the labels of their leaves: no byte can be wrong there.
+abbrev pub take-out-due : List Bool → List Bool → ℕ → Option Refusal
+take-out-due ms word room =
+    refused-unless (eqb (length word) (length ms)) ItemCount
+    (refused-if (ltb room (trues ms)) Output None)
+
+abbrev pub TakenOut : List Bool → List Bool → List ℕ → Result ℕ Refusal → List Bool → List ℕ → Type 0
+TakenOut ms word before answer labels after =
+    Outcome (take-out-due ms word (length before)) answer
+    (λ k. (k ≡ trues ms) × (after ≡ bytes (data-of ms word) ++ drop k before) × (labels ≡ unlabel (tree-of ms) word))
+    ((after ≡ before) × (labels ≡ word))

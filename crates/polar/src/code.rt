@@ -11,7 +11,7 @@ ghost use Rattle.polar.specs.Bytes.{bits, bytes};
 ghost use Rattle.polar.specs.Labels.{unlabel};
 ghost use Rattle.polar.specs.Marks.{spread, collect};
 ghost use Rattle.polar.specs.Codewords.{codeword, Encodes};
-ghost use Rattle.polar.specs.Plans.{marks-of, Encoded, Extracted};
+ghost use Rattle.polar.specs.Plans.{marks-of, Encoded, Extracted, TakenOut};
 use crate::bits::are_bits;
 use crate::bits::put_bits;
 use crate::bits::write_bytes;
@@ -89,6 +89,24 @@ fn put_leaf_labels_of(word: &[u8], labels: &mut [bool])
 {
     put_bits(word, labels);
     untransform(labels);
+}
+
+// Takes the data out of a block's bits in place: the bits become the labels of their leaves, and those of the active leaves
+// are written into the front of `out`, a byte for each. Answers how many they are.
+pub fn take_out(plan: &Plan, word: &mut [bool], out: &mut [u8]) -> Result<usize, Refusal>
+    ensures { λ r. ⌜ TakenOut (marks-of (now (plan .entry))) (now (word .entry)) (now (out .entry)) r (now (word .exit)) (now (out .exit)) ⌝ }
+{
+    let marks = plan.marks();
+    if word.len() != marks.len() {
+        return Err(Refusal::ItemCount);
+    }
+    let active = plan.active();
+    if out.len() < active {
+        return Err(Refusal::Output);
+    }
+    untransform(word);
+    write_active(marks, word, out);
+    Ok(active)
 }
 
 // Writes the data of a block's bits, a byte for each, into the front of `out`, and answers how many they are.

@@ -12,11 +12,10 @@ use crate::tree::children;
 
 // Adds the right part of a label, which begins at `mid`, to its left part, place by place.
 // The last bit of a longer left part passes through.
-pub(crate) fn add_right(bits: &mut [bool], mid: usize)
-    requires { ⌜ mid ≤ length (now bits) ⌝ }
+pub fn add_right(bits: &mut [bool], mid: usize)
     ensures { λ _. ⌜ now (bits .exit) ≡ plus (now (bits .entry)) (drop mid (now (bits .entry))) ⌝ }
 {
-    for i in 0..bits.len() - mid {
+    for i in 0..bits.len().saturating_sub(mid) {
         bits[i] ^= bits[mid + i];
     }
 }

@@ -1,0 +1,5 @@
+pub mod Readings
+pub mod LeafReading
+pub mod SplitReading
+pub mod Halves
+pub mod Blocks
