@@ -15,5 +15,6 @@ pub mod Runs
 pub mod Parts
 pub mod Minimum
 pub mod Dues
+pub mod FirstPlaces
 pub mod Codes
 pub mod PlanFacts

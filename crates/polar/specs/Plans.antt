@@ -30,6 +30,13 @@ fill-due n ms =
 abbrev pub Filled : Plan → ℕ → List ℕ → Result (Unit {0}) Refusal → Plan → Type 0
 Filled before n ms answer after = Outcome (fill-due n ms) answer (λ _. marks-of after ≡ bits ms) (after ≡ before)
 
+-- the same with marks that are bits already
+abbrev pub marks-due : List Bool → Option Refusal
+marks-due ms = length-due (length ms) (refused-unless (ltb 0 (trues ms)) Marks None)
+
+abbrev pub MarksSet : Plan → List Bool → Result (Unit {0}) Refusal → Plan → Type 0
+MarksSet before ms answer after = Outcome (marks-due ms) answer (λ _. marks-of after ≡ ms) (after ≡ before)
+
 -- encoding these data into a buffer of `room` bytes: the data come first
 abbrev pub encode-due : List Bool → List ℕ → ℕ → Option Refusal
 encode-due ms ds room =

@@ -29,6 +29,7 @@ use Rattle.polar.specs.declared.refusal.Refusal.{Refusal}
 use Rattle.polar.specs.Plans.{marks-of, TakenOut}
 use Rattle.polar.proofs.PlanFacts.{sized}
 use Rattle.polar.proofs.Dues.{unless-none}
+use Rattle.polar.proofs.FirstPlaces.{one-further}
 use Rattle.polar.proofs.Parts.{label-codeword}
 use Rattle.polar.proofs.Codes.{taken-out}
 use Rattle.readers.specs.Readings.{Reading, Reader-rules, Posed, All-fit, most-places, total}
@@ -51,14 +52,6 @@ passes : (b : Bool) (o : Option ℕ) → not (isSome (cond b (mapped suc o) (Som
 passes true None = refl
 passes true (Some k) = refl
 passes false o = refl
-
-pub from-zero : (o : Option ℕ) → mapped (λ k. 0 + k) o ≡ o
-from-zero None = refl
-from-zero (Some k) = ap Some (omega arith)
-
-one-further : (i : ℕ) (o : Option ℕ) → mapped (λ k. i + k) (mapped suc o) ≡ mapped (λ k. (i + 1) + k) o
-one-further i None = refl
-one-further i (Some k) = ap Some (omega arith)
 
 module _ {K : Type 0} (kind : Kind K) where
   -- one value more at the front of what is left of a row

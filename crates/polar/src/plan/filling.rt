@@ -6,7 +6,7 @@ ghost use Prim.Native.Nat.{_≤_, _<_};
 ghost use lib.ListN.{length};
 ghost use Rattle.std.specs.Vec.{made};
 ghost use Rattle.polar.specs.Words.{trues};
-ghost use Rattle.polar.specs.Plans.{marks-of, Filled};
+ghost use Rattle.polar.specs.Plans.{marks-of, Filled, MarksSet};
 use crate::bits::are_bits;
 use crate::bits::count_ones;
 use crate::bits::put_bits;
@@ -39,12 +39,29 @@ impl Plan {
         let mut room = [false; MAX_LENGTH];
         let word = &mut room[0..len];
         put_bits(marks, word);
-        let active = count_ones(word);
+        self.set_marks(word)
+    }
+
+    // The same with a mark for each leaf, `true` for an active one.
+    pub fn set_marks(&mut self, marks: &[bool]) -> Result<(), Refusal>
+        ensures { λ r. ⌜ MarksSet (now (self .entry)) (now (marks .entry)) r (now (self .exit)) ⌝ }
+    {
+        if marks.is_empty() || marks.len() > MAX_LENGTH {
+            return Err(Refusal::Length);
+        }
+        let active = count_ones(marks);
         if active == 0 {
             return Err(Refusal::Marks);
         }
-        self.replace(word, active);
+        self.replace(marks, active);
         Ok(())
+    }
+
+    // Replaces the plan by a copy of another.
+    pub fn copy_from(&mut self, other: &Plan)
+        ensures { λ _. ⌜ marks-of (now (self .exit)) ≡ marks-of (now (other .entry)) ⌝ }
+    {
+        self.replace(other.marks(), other.active());
     }
 
     // Puts these marks in the place of the old ones, within the reserved room.

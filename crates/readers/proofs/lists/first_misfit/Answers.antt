@@ -4,7 +4,8 @@ use Prim.Native.Nat.{_+_}
 use Rattle.std.specs.Options.{mapped}
 use Rattle.std.proofs.shelf.Lists.{drop-all}
 use Rattle.readers.specs.Blocks.{first-unfit}
-use Rattle.readers.proofs.Listing.{some-none, from-zero, misfit-here, misfit-later}
+use Rattle.polar.proofs.FirstPlaces.{from-zero}
+use Rattle.readers.proofs.Listing.{some-none, misfit-here, misfit-later}
 use Rattle.readers.proofs.lists.first_misfit.Needs as need
 
 pub returns-then-all-fit : need.returns-then-all-fit

@@ -1,0 +1,4 @@
+pub mod Counts
+pub mod Shortfalls
+pub mod Contradictions
+pub mod Imports

@@ -1,0 +1,5 @@
+pub mod Tops
+pub mod Captures
+pub mod Calls
+pub mod Promises
+pub mod Views

@@ -1,0 +1,5 @@
+pub mod Scaling
+pub mod Rounding
+pub mod Levels
+pub mod Unique
+pub mod Rows

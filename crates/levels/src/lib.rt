@@ -1,0 +1,2 @@
+// Counts of a capture, and the levels that they stand for.
+pub mod scale;
