@@ -41,3 +41,35 @@ pub impl fmt::Display for Refused as RefusedDisplay {
         }
     }
 }
+
+// Counts, with a space between them.
+#[derive(Drop)]
+pub struct Counts<'a>(pub &'a [i16]);
+
+pub impl fmt::Display for Counts<'_> as CountsDisplay {
+    fn fmt<W: fmt::Write>(&self, f: &mut fmt::Formatter<W>) -> fmt::Result {
+        for (i, c) in self.0.iter().enumerate() {
+            if i > 0 {
+                write!(f, " ")?;
+            }
+            write!(f, "{c}")?;
+        }
+        Ok(())
+    }
+}
+
+// Levels, with a space between them.
+#[derive(Drop)]
+pub struct Levels<'a>(pub &'a [f32]);
+
+pub impl fmt::Display for Levels<'_> as LevelsDisplay {
+    fn fmt<W: fmt::Write>(&self, f: &mut fmt::Formatter<W>) -> fmt::Result {
+        for (i, x) in self.0.iter().enumerate() {
+            if i > 0 {
+                write!(f, " ")?;
+            }
+            write!(f, "{x}")?;
+        }
+        Ok(())
+    }
+}

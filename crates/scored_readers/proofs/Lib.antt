@@ -1,0 +1,6 @@
+pub mod Numbers
+pub mod Largest
+pub mod Scores
+pub mod ExhaustiveRules
+pub mod Decisions
+pub mod ShortcutRules

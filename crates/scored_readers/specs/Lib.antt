@@ -1,0 +1,2 @@
+pub mod ExhaustiveReading
+pub mod ShortcutReading

@@ -1,0 +1,86 @@
+// A capture of the 6-symbol block: made, edited, exported and imported.
+use crate::show::Bits;
+use crate::show::BitsDisplay;
+use crate::show::Counts;
+use crate::show::CountsDisplay;
+use crate::show::Levels;
+use crate::show::LevelsDisplay;
+use crate::show::Refused;
+use crate::show::RefusedDisplay;
+use captures::capture::Capture;
+use captures::edit::Edit;
+use polar::plan::Plan;
+use std::error::AnyError;
+
+const WORD: [u8; 6] = [0, 1, 1, 0, 1, 1];
+
+// The working days of a year.
+const DAYS: u32 = 250;
+
+pub fn show_capture(rt: &LibcRuntime, plan: &Plan) -> Result<(), AnyError> {
+    let mut capture = Capture::new(rt.alloc())?;
+    println!(rt, "A capture of the data 11 with exponent 3")?;
+    if let Err(refusal) = capture.make(plan, 3, &[1, 1]) {
+        println!(rt, "  {}", Refused(refusal))?;
+    }
+    show_state(rt, &capture)?;
+    edit(rt, &mut capture, "erase place 1", 1, Edit::Erase)?;
+    edit(rt, &mut capture, "erase place 2", 2, Edit::Erase)?;
+    edit(rt, &mut capture, "weaken place 4 by 127", 4, Edit::Weaken(127))?;
+    edit(rt, &mut capture, "weaken place 0 by 128", 0, Edit::Weaken(128))?;
+    edit(rt, &mut capture, "write level 100 to place 0", 0, Edit::Level(100.0))?;
+    reopen(rt, &mut capture)
+}
+
+// What the capture holds, and how far it falls short of the sender's word.
+fn show_state(rt: &LibcRuntime, capture: &Capture) -> Result<(), AnyError> {
+    println!(rt, "  counts    {}", Counts(capture.counts()))?;
+    match capture.shortfall(&WORD) {
+        Ok(sum) => println!(rt, "    shortfall {sum} from {}", Bits(&WORD))?,
+        Err(refusal) => println!(rt, "    {}", Refused(refusal))?,
+    }
+    match capture.first_against(&WORD) {
+        Ok(Some(place)) => println!(rt, "    place {place} speaks against it")?,
+        Ok(None) => println!(rt, "    no place speaks against it")?,
+        Err(refusal) => println!(rt, "    {}", Refused(refusal))?,
+    }
+    Ok(())
+}
+
+fn edit(
+    rt: &LibcRuntime,
+    capture: &mut Capture,
+    name: &str,
+    place: usize,
+    edit: Edit,
+) -> Result<(), AnyError> {
+    let charge = capture.charge(edit);
+    match capture.edit(place, edit) {
+        Ok(()) => println!(rt, "  {name}, charged {charge}")?,
+        Err(refusal) => {
+            println!(rt, "  {name}: {}", Refused(refusal))?;
+            return Ok(());
+        }
+    }
+    show_state(rt, capture)
+}
+
+// A year of exporting and importing, after which no count has moved.
+fn reopen(rt: &LibcRuntime, capture: &mut Capture) -> Result<(), AnyError> {
+    let mut levels = [0.0f32; 6];
+    let done = export_and_import(capture, &mut levels);
+    println!(rt, "  levels    {}", Levels(&levels))?;
+    println!(rt, "After {done} rounds of export and import")?;
+    show_state(rt, capture)
+}
+
+// How many rounds were accepted.
+fn export_and_import(capture: &mut Capture, levels: &mut [f32]) -> u32 {
+    let mut done = 0u32;
+    for _ in 0..DAYS {
+        if capture.export(levels).is_ok() && capture.import(levels).is_ok() {
+            done = done.saturating_add(1);
+        }
+    }
+    done
+}
