@@ -34,7 +34,14 @@ fn data_of<R: Reader<Count>>(pile: &R, plan: &Plan, counts: &[i16]) -> Result<u3
     let mut soft = [Count(0); 256];
     let mut bits = [false; 256];
     let mut data = [7u8; 8];
-    let k = read_list(pile, plan, &values[0..counts.len()], &mut soft, &mut bits, &mut data)?;
+    let k = read_list(
+        pile,
+        plan,
+        &values[0..counts.len()],
+        &mut soft,
+        &mut bits,
+        &mut data,
+    )?;
     let mut number = 1u32;
     for d in data.iter().take(k) {
         number = number.wrapping_mul(2).wrapping_add(u32::from(*d));
@@ -54,10 +61,27 @@ fn six_symbols(rt: LibcRuntime) -> Result<(), Fail> {
     plan.fill(6, &[0, 0, 0, 0, 1, 1])?;
     let pile = Split { below: Leaf };
     check_eq(data_of(&pile, &plan, &[127, 0, 0, 127, 0, -127]), Ok(0b111))?;
-    check_eq(data_of(&pile, &plan, &[127, 127, 127, 127, -127, -127]), Ok(0b100))?;
-    let sure = [Count(127), Count(0), Count(0), Count(127), Count(0), Count(-127)];
+    check_eq(
+        data_of(&pile, &plan, &[127, 127, 127, 127, -127, -127]),
+        Ok(0b100),
+    )?;
+    let sure = [
+        Count(127),
+        Count(0),
+        Count(0),
+        Count(127),
+        Count(0),
+        Count(-127),
+    ];
     check_eq(shortfall(&plan, &sure, &[0, 1, 1, 0, 1, 1]), Ok(381))?;
-    let half = [Count(127), Count(127), Count(127), Count(127), Count(-127), Count(-127)];
+    let half = [
+        Count(127),
+        Count(127),
+        Count(127),
+        Count(127),
+        Count(-127),
+        Count(-127),
+    ];
     check_eq(shortfall(&plan, &half, &[0, 1, 1, 0, 1, 1]), Ok(508))
 }
 
@@ -84,7 +108,10 @@ fn shortcut_patterns(rt: LibcRuntime) -> Result<(), Fail> {
     plan.fill(3, &[0, 0, 1])?;
     check_eq(data_of(&pile, &plan, &[-3, 9, 3]), Ok(0b10))?;
     plan.fill(4, &[0, 1, 0, 1])?;
-    check_eq(data_of(&pile, &plan, &[-4, 1, 1, 1]), Err(Refusal::NotTaken))
+    check_eq(
+        data_of(&pile, &plan, &[-4, 1, 1, 1]),
+        Err(Refusal::NotTaken),
+    )
 }
 
 #[test]
@@ -107,7 +134,14 @@ fn attempt<R: Reader<Count>>(
     let mut bits = [true; 80];
     let mut out = [7u8; 4];
     let (soft_len, out_len) = (soft_len.min(80), out_len.min(4));
-    let answer = read_list(pile, plan, values, &mut soft[0..soft_len], &mut bits, &mut out[0..out_len]);
+    let answer = read_list(
+        pile,
+        plan,
+        values,
+        &mut soft[0..soft_len],
+        &mut bits,
+        &mut out[0..out_len],
+    );
     let kept = soft[0] == Count(9) && bits == [true; 80] && out == [7; 4];
     if answer.is_err() && !kept {
         return Err(Refusal::Place);
@@ -122,10 +156,19 @@ fn lists_refuse_in_order(rt: LibcRuntime) -> Result<(), Fail> {
     plan.fill(2, &[1, 1])?;
     let pile = Split { below: Leaf };
     let good = [Count(127), Count(-127)];
-    check_eq(attempt(&pile, &plan, &good[0..1], 0, 0), Err(Refusal::ItemCount))?;
-    check_eq(attempt(&pile, &plan, &[Count(0), Count(128)], 0, 0), Err(Refusal::Range))?;
+    check_eq(
+        attempt(&pile, &plan, &good[0..1], 0, 0),
+        Err(Refusal::ItemCount),
+    )?;
+    check_eq(
+        attempt(&pile, &plan, &[Count(0), Count(128)], 0, 0),
+        Err(Refusal::Range),
+    )?;
     check_eq(attempt(&Leaf, &plan, &good, 0, 0), Err(Refusal::NotTaken))?;
-    check_eq(attempt(&pile, &plan, &good, 73, 0), Err(Refusal::WorkingRoom))?;
+    check_eq(
+        attempt(&pile, &plan, &good, 73, 0),
+        Err(Refusal::WorkingRoom),
+    )?;
     check_eq(attempt(&pile, &plan, &good, 74, 1), Err(Refusal::Output))?;
     check_eq(attempt(&pile, &plan, &good, 74, 4), Ok(2))
 }
@@ -139,8 +182,24 @@ fn erasures_read(rt: LibcRuntime) -> Result<(), Fail> {
     let mut bits = [false; 128];
     let mut out = [7u8; 2];
     let pile = Split { below: Leaf };
-    check_eq(read_list(&pile, &plan, &[z, u, u, z, u, o], &mut soft, &mut bits, &mut out), Ok(2))?;
+    check_eq(
+        read_list(
+            &pile,
+            &plan,
+            &[z, u, u, z, u, o],
+            &mut soft,
+            &mut bits,
+            &mut out,
+        ),
+        Ok(2),
+    )?;
     check(out == [1, 1])?;
-    check_eq(shortfall(&plan, &[z, u, u, z, u, o], &[0, 1, 1, 0, 1, 1]), Ok(3))?;
-    check_eq(shortfall(&plan, &[z, u, u, z, u, o], &[1, 1, 1, 0, 1, 1]), Ok(8195))
+    check_eq(
+        shortfall(&plan, &[z, u, u, z, u, o], &[0, 1, 1, 0, 1, 1]),
+        Ok(3),
+    )?;
+    check_eq(
+        shortfall(&plan, &[z, u, u, z, u, o], &[1, 1, 1, 0, 1, 1]),
+        Ok(8195),
+    )
 }

@@ -26,9 +26,27 @@ pub fn show_capture(rt: &LibcRuntime, plan: &Plan) -> Result<(), AnyError> {
     show_state(rt, &capture)?;
     edit(rt, &mut capture, "erase place 1", 1, Edit::Erase)?;
     edit(rt, &mut capture, "erase place 2", 2, Edit::Erase)?;
-    edit(rt, &mut capture, "weaken place 4 by 127", 4, Edit::Weaken(127))?;
-    edit(rt, &mut capture, "weaken place 0 by 128", 0, Edit::Weaken(128))?;
-    edit(rt, &mut capture, "write level 100 to place 0", 0, Edit::Level(100.0))?;
+    edit(
+        rt,
+        &mut capture,
+        "weaken place 4 by 127",
+        4,
+        Edit::Weaken(127),
+    )?;
+    edit(
+        rt,
+        &mut capture,
+        "weaken place 0 by 128",
+        0,
+        Edit::Weaken(128),
+    )?;
+    edit(
+        rt,
+        &mut capture,
+        "write level 100 to place 0",
+        0,
+        Edit::Level(100.0),
+    )?;
     reopen(rt, &mut capture)
 }
 

@@ -25,13 +25,19 @@ fn run(rt: &LibcRuntime) -> Result<(), AnyError> {
 }
 
 fn show_codes(rt: &LibcRuntime, plan: &mut Plan) -> Result<(), AnyError> {
-    println!(rt, "A block of 9 symbols, of which leaf 4 alone carries a datum")?;
+    println!(
+        rt,
+        "A block of 9 symbols, of which leaf 4 alone carries a datum"
+    )?;
     show_block(rt, plan, &[0, 0, 0, 0, 1, 0, 0, 0, 0], &[1])?;
     println!(rt, "The same length with leaf 8 alone, the heaviest")?;
     show_block(rt, plan, &[0, 0, 0, 0, 0, 0, 0, 0, 1], &[1])?;
     println!(rt, "A block of 6 symbols with two data, on leaves 4 and 5")?;
     show_block(rt, plan, &[0, 0, 0, 0, 1, 1], &[1, 1])?;
-    println!(rt, "From the labels of the leaves to the label of the root, and back")?;
+    println!(
+        rt,
+        "From the labels of the leaves to the label of the root, and back"
+    )?;
     show_leaves(rt)?;
     println!(rt, "Calls that are refused, and change nothing")?;
     show_refusals(rt, plan)

@@ -33,11 +33,18 @@ const WORD: [u8; 6] = [0, 1, 1, 0, 1, 1];
 
 pub fn show_readings(rt: &LibcRuntime, plan: &Plan) -> Result<(), AnyError> {
     let limit = 127 * plan.weight();
-    println!(rt, "The same block as counts, read by counts; sure below a shortfall of {limit}")?;
+    println!(
+        rt,
+        "The same block as counts, read by counts; sure below a shortfall of {limit}"
+    )?;
     show_counts(rt, plan, &[127, -127, -127, 127, -127, -127])?;
     show_counts(rt, plan, &[127, 0, 0, 127, 0, -127])?;
     show_counts(rt, plan, &[127, 127, 127, 127, -127, -127])?;
-    println!(rt, "As erasures, three symbols of which are unknown; sure below {}", plan.weight())?;
+    println!(
+        rt,
+        "As erasures, three symbols of which are unknown; sure below {}",
+        plan.weight()
+    )?;
     let (zero, one, unknown) = (Erasure::Zero, Erasure::One, Erasure::Unknown);
     let values = [zero, unknown, unknown, zero, unknown, one];
     show_shortfall(rt, plan, &values)?;
@@ -54,9 +61,21 @@ fn show_counts(rt: &LibcRuntime, plan: &Plan, counts: &[i16; 6]) -> Result<(), A
         return Err("no exhaustive reader".into());
     };
     read_through(rt, "split over leaf", &Split { below: Leaf }, plan, &values)?;
-    read_through(rt, "split over exhaustive", &Split { below: exhaustive }, plan, &values)?;
+    read_through(
+        rt,
+        "split over exhaustive",
+        &Split { below: exhaustive },
+        plan,
+        &values,
+    )?;
     let shortcut = Shortcut { below: exhaustive };
-    read_through(rt, "split over shortcut", &Split { below: shortcut }, plan, &values)
+    read_through(
+        rt,
+        "split over shortcut",
+        &Split { below: shortcut },
+        plan,
+        &values,
+    )
 }
 
 // The counts as soft values.
