@@ -11,8 +11,9 @@ use Rattle.std.specs.Options.{valueOr}
 use Rattle.std.specs.declared.option.Option.{Option}
 use Rattle.std.specs.declared.option.Option.the-variants.{Some, None}
 use Rattle.std.specs.declared.result.Result.{Result}
+use Rattle.std.specs.declared.result.Result.the-variants.{Ok}
 use Rattle.polar.specs.declared.refusal.Refusal.{Refusal}
-use Rattle.polar.specs.declared.refusal.Refusal.the-variants.{Data, Place, Range, ItemCount}
+use Rattle.polar.specs.declared.refusal.Refusal.the-variants.{Data, Place, Range, Output, ItemCount}
 use Rattle.polar.specs.Refusals.{Outcome, refused-if, refused-unless}
 use Rattle.polar.specs.Words.{trues}
 use Rattle.polar.specs.Bytes.{all-bits, bits}
@@ -20,7 +21,10 @@ use Rattle.levels.specs.Level.{levelOf, countOf, topExponent}
 use Rattle.levels.specs.Rows.{export-due, import-due, RowExported}
 use Rattle.captures.specs.declared.edit.Edit.{Edit}
 use Rattle.captures.specs.declared.edit.Edit.the-variants.{Erase, Count, Level, Weaken}
-use Rattle.captures.specs.Captures.{Captured, with-counts, made-of, shortfall, first-against}
+use Rattle.storage.specs.Stored.{stored}
+use Rattle.storage.specs.Reading.{outcome}
+use Rattle.storage.specs.Calls.{load-due}
+use Rattle.captures.specs.Captures.{Captured, content-in, with-counts, made-of, shortfall, first-against}
 
 -- what a call answers that has nothing to give
 abbrev pub Answer : Type 0
@@ -90,3 +94,18 @@ module _ (top : ℕ) where
 
   abbrev pub AgainstTold : Captured → List ℕ → Result (Option ℕ) Refusal → Type 0
   AgainstTold c word answer = Outcome (word-due (c .marks-row) word) answer (λ place. place ≡ first-against (c .count-row) (bits word)) (Unit {0})
+
+  -- the bytes that a capture is stored as
+  abbrev pub saved-bytes : Captured → List ℕ
+  saved-bytes c = stored top (content-in c)
+
+  -- saving writes them into the front of a row, whose tail stays
+  abbrev pub Saved : Captured → List ℕ → Result ℕ Refusal → List ℕ → Type 0
+  Saved c before answer after =
+      Outcome (refused-if (ltb (length before) (length (saved-bytes c))) Output None) answer
+      (λ n. (n ≡ length (saved-bytes c)) × (after ≡ saved-bytes c ++ drop n before))
+      (after ≡ before)
+
+  -- loading replaces the whole capture by what the bytes store, or nothing; what the place held does not matter
+  abbrev pub Loaded : Captured → List ℕ → Answer → Captured → Type 0
+  Loaded before bytes answer after = Outcome (load-due top bytes) answer (λ _. outcome top bytes ≡ Ok (content-in after)) (after ≡ before)

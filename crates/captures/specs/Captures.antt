@@ -9,6 +9,7 @@ use Rattle.std.specs.declared.option.Option.{Option}
 use Rattle.std.specs.declared.option.Option.the-variants.{Some, None}
 use Rattle.soft.specs.Whole.{short-of}
 use Rattle.polar.specs.Codewords.{codeword}
+use Rattle.storage.specs.Contents.{Content, content-of}
 
 -- a plan's marks, a count for each symbol, and the exponent of the scale
 pub record Captured : Type 0 where
@@ -21,6 +22,10 @@ capture-of ms counts k = record { marks-row = ms; count-row = counts; scale-expo
 
 abbrev pub with-counts : Captured → List ℤ → Captured
 with-counts c counts = capture-of (c .marks-row) counts (c .scale-exponent)
+
+-- what is stored of a capture
+abbrev pub content-in : Captured → Content
+content-in c = content-of (c .marks-row) (c .count-row) (c .scale-exponent)
 
 -- the count that a codeword bit is made with
 abbrev pub full : ℕ → Bool → ℤ

@@ -14,7 +14,7 @@ use Rattle.polar.specs.declared.refusal.Refusal.{Refusal}
 use Rattle.captures.specs.declared.edit.Edit.{Edit}
 use Rattle.captures.specs.declared.edit.Edit.the-variants.{Erase, Count, Level, Weaken}
 use Rattle.captures.specs.Captures.{Captured, shortfall}
-use Rattle.captures.specs.Calls.{Answer, charge, Imported}
+use Rattle.captures.specs.Calls.{Answer, charge, Imported, saved-bytes, Loaded}
 
 -- an edit raises the shortfall from any word by at most its charge
 abbrev pub Charged : ℕ → Captured → Edit → Captured → Type 0
@@ -34,3 +34,11 @@ Keeps-sign before (Weaken n) after = (i : ℕ) → Same-side (getD (before .coun
 -- importing what was exported leaves the capture equal
 abbrev pub Returns : ℕ → Captured → Result ℕ Refusal → List Float → Type 0
 Returns top c answer row = made answer (λ n. (again : Answer) (after : Captured) → Imported top c (take n row) again after → (again ≡ Ok tt) × (after ≡ c))
+
+-- loading what was saved gives an equal capture, in whatever place
+abbrev pub Loads-back : ℕ → Captured → Result ℕ Refusal → List ℕ → Type 0
+Loads-back top c answer row = made answer (λ n. (place : Captured) (again : Answer) (after : Captured) → Loaded top place (take n row) again after → (again ≡ Ok tt) × (after ≡ c))
+
+-- what loads is saved as the same bytes
+abbrev pub Saves-back : ℕ → List ℕ → Answer → Captured → Type 0
+Saves-back top bytes answer after = made answer (λ _. bytes ≡ saved-bytes top after)

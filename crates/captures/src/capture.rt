@@ -10,6 +10,7 @@ pub mod converting;
 pub mod editing;
 pub mod making;
 pub mod questions;
+pub mod storing;
 
 // The largest count.
 pub const TOP: u16 = 127;

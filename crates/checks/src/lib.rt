@@ -6,6 +6,8 @@ mod code;
 #[cfg(test)]
 mod converting;
 #[cfg(test)]
+mod keeping;
+#[cfg(test)]
 mod reading;
 #[cfg(test)]
 mod tree;

@@ -107,6 +107,10 @@ fn shortcut_patterns(rt: LibcRuntime) -> Result<(), Fail> {
     check_eq(data_of(&pile, &plan, &[5, -5]), Ok(0b11))?;
     plan.fill(3, &[0, 0, 1])?;
     check_eq(data_of(&pile, &plan, &[-3, 9, 3]), Ok(0b10))?;
+    let deeper = Shortcut {
+        below: Split { below: Leaf },
+    };
+    check_eq(data_of(&deeper, &plan, &[-3, 9, 3]), Ok(0b10))?;
     plan.fill(4, &[0, 1, 0, 1])?;
     check_eq(
         data_of(&pile, &plan, &[-4, 1, 1, 1]),

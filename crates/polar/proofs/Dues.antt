@@ -1,5 +1,5 @@
 -- What it says that no refusal is due. Assumes nothing.
-use mathlib.Core.Path.{_≡_, refl}
+use mathlib.Core.Path.{_≡_, refl, ap}
 use mathlib.Core.Bool.{Bool, true, false}
 use Prim.Native.Nat.{ℕ}
 use native.Mathlib.Omega.{arith}
@@ -18,3 +18,10 @@ unless-none false e later h = absurd (some-due e h)
 pub if-none : (test : Bool) (e : Refusal) (later : Option Refusal) → refused-if test e later ≡ None → (test ≡ false) × (later ≡ None)
 if-none true e later h = absurd (some-due e h)
 if-none false e later h = (refl, h)
+
+-- a test that does not refuse leaves what is looked for next
+pub unless-passes : (test : Bool) (e : Refusal) (later : Option Refusal) → test ≡ true → refused-unless test e later ≡ later
+unless-passes test e later h = ap (λ t. refused-unless t e later) h
+
+pub if-passes : (test : Bool) (e : Refusal) (later : Option Refusal) → test ≡ false → refused-if test e later ≡ later
+if-passes test e later h = ap (λ t. refused-if t e later) h

@@ -6,7 +6,7 @@ use Prim.Native.Nat.{ℕ, zero, suc, _+_, _-_, _%_, _≤_, _<_}
 use native.Mathlib.Omega.{arith}
 use borrow.Author.Differences.{ints}
 use lib.Dec.{T, eqb}
-use lib.IntN.{pos, negℤ, _+ℤ_}
+use lib.IntN.{ℤ, pos, _+ℤ_}
 use lib.ListN.{length, getD, set}
 use lib.Signed.{_≤ℤ_}
 use Rattle.std.proofs.shelf.Lists.{length-map, length-set}
@@ -16,7 +16,7 @@ use Rattle.soft.specs.Kind.{Kind, Score, All-fair}
 use Rattle.polar.specs.Words.{xor, trues, parity}
 use Rattle.readers.specs.Readings.{All-fit}
 use Rattle.scored_readers.specs.ExhaustiveReading.{word-score}
-use Rattle.scored_readers.specs.ShortcutReading.{score-width, weakest, even-answer}
+use Rattle.scored_readers.specs.ShortcutReading.{score-width, closeness, weakest, even-answer}
 use Rattle.scored_readers.proofs.Largest.{best-least, best-most}
 
 -- ---- parity
@@ -59,6 +59,16 @@ differing (true ∷ a) (true ∷ b) long odd = let d = differing a b (omega arit
 differing (false ∷ a) (false ∷ b) long odd = let d = differing a b (omega arith) (xor-other false (parity a) (parity b) odd) in (suc (d .0), omega (arith, d .1), d .2)
 
 module _ {K : Type 0} (kind : Kind K) (score : Score K) (fair : All-fair kind score) (turns : ℕ) (few : turns ≤ 12) where
+  -- the score of a word, the decided word, and the width of the value at a place
+  abbrev score-of : List K → List Bool → ℤ
+  score-of = word-score score turns
+
+  abbrev guess : List K → List Bool
+  guess = map (kind .decided)
+
+  abbrev width-at : List K → ℕ → ℕ
+  width-at values i = getD (map (score-width score turns) values) i 0
+
   -- the other bit scores less than the decided one by the width of the value
   other-score : (v : K) → T (kind .fitting v turns) → score v (not (kind .decided v)) turns +ℤ pos (score-width score turns v) ≡ score v (kind .decided v) turns
   other-score v fits = apart (kind .decided v) (fair v true turns few fits .favours)
@@ -76,14 +86,15 @@ module _ {K : Type 0} (kind : Kind K) (score : Score K) (fair : All-fair kind sc
       either false true favours = favours
       either false false favours = omega (arith, ints)
 
-  pub decided-most : (values : List K) (word : List Bool) → All-fit kind turns values → length word ≡ length values → word-score score turns values word ≤ℤ word-score score turns values (map (kind .decided) values)
+  -- no word scores more than the decided one
+  pub decided-most : (values : List K) (word : List Bool) → All-fit kind turns values → length word ≡ length values → score-of values word ≤ℤ score-of values (guess values)
   decided-most [] word fits long = omega (arith, ints)
   decided-most (v ∷ values) [] fits long = absurd (omega arith)
   decided-most (v ∷ values) (b ∷ word) fits long = omega (arith, ints, bit-most v b (fits .0), decided-most values word (fits .1) (omega arith))
 
   -- a word that is not as decided at a place loses the width there
-  other-most : (values : List K) (word : List Bool) (i : ℕ) → All-fit kind turns values → length word ≡ length values → i < length values → getD word i false ≡ not (getD (map (kind .decided) values) i false)
-      → (word-score score turns values word +ℤ pos (getD (map (score-width score turns) values) i 0)) ≤ℤ word-score score turns values (map (kind .decided) values)
+  other-most : (values : List K) (word : List Bool) (i : ℕ) → All-fit kind turns values → length word ≡ length values → i < length values
+      → getD word i false ≡ not (getD (guess values) i false) → (score-of values word +ℤ pos (width-at values i)) ≤ℤ score-of values (guess values)
   other-most [] word i fits long within other = absurd (omega arith)
   other-most (v ∷ values) [] i fits long within other = absurd (omega arith)
   other-most (v ∷ values) (b ∷ word) zero fits long within other =
@@ -94,33 +105,33 @@ module _ {K : Type 0} (kind : Kind K) (score : Score K) (fair : All-fair kind sc
 
   -- the decided word turned at one place loses just that
   turned-score : (values : List K) (i : ℕ) → All-fit kind turns values → i < length values
-      → word-score score turns values (set (map (kind .decided) values) i (not (getD (map (kind .decided) values) i false))) +ℤ pos (getD (map (score-width score turns) values) i 0) ≡ word-score score turns values (map (kind .decided) values)
+      → score-of values (set (guess values) i (not (getD (guess values) i false))) +ℤ pos (width-at values i) ≡ score-of values (guess values)
   turned-score [] i fits within = absurd (omega arith)
   turned-score (v ∷ values) zero fits within = omega (arith, ints, other-score v (fits .0))
   turned-score (v ∷ values) (suc i) fits within = omega (arith, ints, turned-score values i (fits .1) (omega arith))
 
   module _ (values : List K) (some : 1 ≤ length values) where
     weakest-within : weakest score turns values < length values
-    weakest-within = omega (arith, best-least (λ i. negℤ (pos (getD (map (score-width score turns) values) i 0))) (length values - 1))
+    weakest-within = omega (arith, best-least (closeness score turns values) (length values - 1))
 
     pub length-even : length (even-answer kind score turns values) ≡ length values
-    length-even = cond-both (parity (map (kind .decided) values)) _ _ (λ w. length w ≡ length values) (λ _. length-set _ _ _ ∙ length-map values (kind .decided)) (λ _. length-map values (kind .decided))
+    length-even =
+        let long = length-map values (kind .decided) in
+        cond-both (parity (guess values)) _ _ (λ w. length w ≡ length values) (λ _. length-set _ _ _ ∙ long) (λ _. long)
 
     pub answer-even : parity (even-answer kind score turns values) ≡ false
     answer-even =
-        let within : weakest score turns values < length (map (kind .decided) values) = rw (length-map values (kind .decided)) weakest-within in
-        cond-both (parity (map (kind .decided) values)) _ _ (λ w. parity w ≡ false) (λ odd. parity-turned _ (weakest score turns values) within ∙ ap not odd) (λ even. even)
+        let within : weakest score turns values < length (guess values) = rw (length-map values (kind .decided)) weakest-within in
+        cond-both (parity (guess values)) _ _ (λ w. parity w ≡ false) (λ odd. parity-turned (guess values) (weakest score turns values) within ∙ ap not odd) (λ even. even)
 
-    -- no word of even sum scores more
-    pub even-most : (word : List Bool) → All-fit kind turns values → length word ≡ length values → parity word ≡ false
-        → word-score score turns values word ≤ℤ word-score score turns values (even-answer kind score turns values)
+    -- no word of even sum scores more than the answer
+    pub even-most : (word : List Bool) → All-fit kind turns values → length word ≡ length values → parity word ≡ false → score-of values word ≤ℤ score-of values (even-answer kind score turns values)
     even-most word fits long even =
-        let guess = map (kind .decided) values in
-        cond-both (parity guess) _ _ (λ w. word-score score turns values word ≤ℤ word-score score turns values w)
+        cond-both (parity (guess values)) _ _ (λ w. score-of values word ≤ℤ score-of values w)
         (λ odd.
-        let there = differing word guess (long ∙ sym (length-map values (kind .decided))) (even ∙ sym (ap not odd)) in
+        let there = differing word (guess values) (long ∙ sym (length-map values (kind .decided))) (even ∙ sym (ap not odd)) in
         let lost = other-most values word (there .0) fits long (omega (arith, there .1)) (there .2) in
         let turned = turned-score values (weakest score turns values) fits weakest-within in
-        let least = best-most (λ i. negℤ (pos (getD (map (score-width score turns) values) i 0))) (length values - 1) (there .0) (omega (arith, there .1)) in
+        let least = best-most (closeness score turns values) (length values - 1) (there .0) (omega (arith, there .1)) in
         omega (arith, ints))
         (λ _. decided-most values word fits long)

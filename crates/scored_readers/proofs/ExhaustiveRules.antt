@@ -37,7 +37,9 @@ module _ {K : Type 0} (kind : Kind K) (score : Score K) (fair : All-fair kind sc
   exhaustive-rules most some = record {
     leaf-taken = leaf-taken most some;
     answers-label = λ ms turns values taken posed. data-codeword ms (posed .some) _;
-    answers-near = λ ms turns values word taken posed code near. near-outscores kind score fair ms turns values word _ posed code (data-codeword ms (posed .some) _) near (exhaustive-most ms turns values word (posed .some) code);
+    answers-near = λ ms turns values word taken posed code near.
+        let most = exhaustive-most ms turns values word (posed .some) code in
+        near-outscores kind score fair ms turns values word _ posed code (data-codeword ms (posed .some) _) near most;
     soft-grows = λ m n h. zero-le;
     bits-grow = λ m n h. omega arith;
   }

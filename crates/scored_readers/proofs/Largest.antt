@@ -24,7 +24,8 @@ best-most f (suc n) k h =
     (λ less. ⊎-elim (λ (last : n < k). let is : k ≡ suc n = omega arith in rw is (omega (arith, ints))) before (cases-lt n k))
 
 -- A loop that keeps what stands at the best place so far, with its score `top`. The next is w, with score s.
-module _ {W : Type 0} (item : ℕ → W) (score : W → ℤ) (n : ℕ) (w : W) (s top : ℤ) (next : w ≡ item (n + 1)) (scored : s ≡ score w) (kept : top ≡ score (item (best (λ k. score (item k)) n))) where
+module _ {W : Type 0} (item : ℕ → W) (score : W → ℤ) (n : ℕ) (w : W) (s top : ℤ) (next : w ≡ item (n + 1))
+    (scored : s ≡ score w) (kept : top ≡ score (item (best (λ k. score (item k)) n))) where
   abbrev pub Best-next : W → ℤ → Type 0
   Best-next w′ top′ = (w′ ≡ item (best (λ k. score (item k)) (n + 1))) × (top′ ≡ score (item (best (λ k. score (item k)) (n + 1))))
 

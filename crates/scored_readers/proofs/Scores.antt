@@ -1,5 +1,5 @@
 -- Scores of words: a near label outscores every other. Assumes nothing.
-use mathlib.Core.Path.{_≡_, sym, ap, subst, _∙_}
+use mathlib.Core.Path.{_≡_, sym, ap, _∙_}
 use mathlib.Core.Logic.{⊎-elim}
 use mathlib.Core.Bool.{Bool, true, false}
 use mathlib.Core.List.{List, [], _∷_}
@@ -36,15 +36,6 @@ pub score-room : (unit len turns i : ℕ) → unit ≤ 2047 → len * 2 ^ turns 
 score-room unit len turns i small short h =
     let moved : len * (unit * 2 ^ turns) ≡ unit * (len * 2 ^ turns) = mul-left-comm len unit (2 ^ turns) in
     omega (arith, mul-le-mul-right (unit * 2 ^ turns) h, mul-le-mul small short)
-
--- a node is posed alike with other bits of the same number
-pub posed-alike : {K : Type 0} (kind : Kind K) {turns : ℕ} {values : List K} (ms word : List Bool) → length word ≡ length ms → Posed kind ms turns values → Posed kind word turns values
-posed-alike kind {turns} ms word same posed = record {
-  some = omega (arith, posed .some);
-  short = subst (λ n. n * 2 ^ turns ≤ 4096) (sym same) (posed .short);
-  same = posed .same ∙ sym same;
-  fits = posed .fits;
-}
 
 module _ {K : Type 0} (kind : Kind K) (score : Score K) (fair : All-fair kind score) where
   -- a word outscores another by what it leaves of the limit in the places where they differ

@@ -13,7 +13,7 @@ use Rattle.std.proofs.shelf.Tests.{eqb-true, and-parts, cond-both, false≢true
 use Rattle.soft.specs.Kind.{Kind, Score, All-fair}
 use Rattle.polar.specs.Shape.{leaves}
 use Rattle.polar.specs.Words.{trues, parity}
-use Rattle.polar.specs.Labels.{label, unlabel}
+use Rattle.polar.specs.Labels.{unlabel}
 use Rattle.polar.specs.Marks.{Clear, Codeword}
 use Rattle.polar.specs.Codewords.{tree-of}
 use Rattle.polar.proofs.Shapes.{leaves-balanced, left-heavy-balanced}
@@ -33,14 +33,16 @@ use Rattle.scored_readers.proofs.Decisions.{decided-most, length-even, answer-
 
 -- ---- the patterns
 
-pattern-cases : (ms : List Bool) (P : Pattern → Type 0) → (trues ms ≡ 0 → P Frozen) → (trues ms ≡ length ms → P Full) → (first-frozen ms ≡ true → P Check) → (trues ms ≡ 1 → P Single) → P Other → P (pattern-of ms)
+pattern-cases : (ms : List Bool) (P : Pattern → Type 0)
+    → (trues ms ≡ 0 → P Frozen) → (trues ms ≡ length ms → P Full) → (first-frozen ms ≡ true → P Check) → (trues ms ≡ 1 → P Single) → P Other → P (pattern-of ms)
 pattern-cases ms P frozen full check single other =
     cond-both (eqb (trues ms) 0) _ _ P (λ e. frozen (eqb-true _ _ e)) (λ _.
     cond-both (eqb (trues ms) (length ms)) _ _ P (λ e. full (eqb-true _ _ e)) (λ _.
     cond-both (first-frozen ms) _ _ P check (λ _.
     cond-both (eqb (trues ms) 1) _ _ P (λ e. single (eqb-true _ _ e)) (λ _. other))))
 
-pub pattern-check : (ms : List Bool) → (trues ms ≡ 0 → ⊥) → (trues ms ≡ length ms → ⊥) → getD ms 0 false ≡ false → 1 < length ms → trues ms + 1 ≡ length ms → Check ≡ pattern-of ms
+pub pattern-check : (ms : List Bool) → (trues ms ≡ 0 → ⊥) → (trues ms ≡ length ms → ⊥) → getD ms 0 false ≡ false → 1 < length ms → trues ms + 1 ≡ length ms
+    → Check ≡ pattern-of ms
 pattern-check ms some part frozen long most =
     rw (ne-eqb (trues ms) 0 some, ne-eqb (trues ms) (length ms) part, frozen, lt-ltb 1 (length ms) long, eq-eqb (trues ms + 1) (length ms) most)
 
@@ -84,7 +86,8 @@ module _ {K : Type 0} (kind : Kind K) (score : Score K) (fair : All-fair kind sc
     Right answer = Codeword (tree-of ms) ms answer × ((word : List Bool) → Codeword (tree-of ms) ms word → Near kind ms turns values word → answer ≡ word)
 
     -- a label that no other outscores
-    most-right : (answer : List Bool) → Codeword (tree-of ms) ms answer → ((word : List Bool) → Codeword (tree-of ms) ms word → word-score score turns values word ≤ℤ word-score score turns values answer) → Right answer
+    most-right : (answer : List Bool) → Codeword (tree-of ms) ms answer
+        → ((word : List Bool) → Codeword (tree-of ms) ms word → word-score score turns values word ≤ℤ word-score score turns values answer) → Right answer
     most-right answer code most = (code, λ word code′ near. near-outscores kind score fair ms turns values word answer posed code′ code near (most word code′))
 
     long : (word : List Bool) → Codeword (tree-of ms) ms word → length word ≡ length values

@@ -3,7 +3,7 @@ use mathlib.Core.List.{List, map}
 use mathlib.Core.Bool.{Bool, true, false, cond, not, _&&_, _||_}
 use Prim.Native.Nat.{ℕ, _+_, _-_}
 use lib.Dec.{eqb, ltb}
-use lib.IntN.{pos, natAbs, negℤ, _-ℤ_}
+use lib.IntN.{ℤ, pos, natAbs, negℤ, _-ℤ_}
 use lib.ListN.{length, getD, set, replicate}
 use lib.Signed.{ltZ}
 use Rattle.polar.specs.Words.{trues, parity}
@@ -42,9 +42,13 @@ zero-label ms = replicate (length ms) false
 abbrev pub score-width : {K : Type 0} → Score K → ℕ → K → ℕ
 score-width score turns v = natAbs (score v true turns -ℤ score v false turns)
 
+-- how close the two scores of the value at a place lie: the opposite of their width
+abbrev pub closeness : {K : Type 0} → Score K → ℕ → List K → ℕ → ℤ
+closeness score turns values i = negℤ (pos (getD (map (score-width score turns) values) i 0))
+
 -- the first place whose two scores lie closest
 abbrev pub weakest : {K : Type 0} → Score K → ℕ → List K → ℕ
-weakest score turns values = best (λ i. negℤ (pos (getD (map (score-width score turns) values) i 0))) (length values - 1)
+weakest score turns values = best (closeness score turns values) (length values - 1)
 
 -- each symbol decided, and the weakest turned if their sum is odd
 abbrev pub even-answer : {K : Type 0} → Kind K → Score K → ℕ → List K → List Bool

@@ -24,7 +24,7 @@ pub struct Exhaustive {
 }
 
 impl Exhaustive {
-    // A threshold is 1 to 8.
+    // Refused unless the threshold is 1 to 8.
     pub fn new(threshold: usize) -> Result<Exhaustive, Refusal>
         ensures { λ r. ⌜ Outcome (threshold-due threshold) r (λ e. e .threshold ≡ threshold) (Unit {0}) ⌝ }
     {
@@ -84,10 +84,11 @@ fn try_words<K: Scored>(
     let mut top = score_word(values, out, turns);
     for number in 0..last {
         put_next_word(marks, number, rows);
-        let score = score_word(values, &rows[0..marks.len()], turns);
+        let word = &rows[0..marks.len()];
+        let score = score_word(values, word, turns);
         if top < score {
             top = score;
-            out.copy_from_slice(&rows[0..marks.len()]);
+            out.copy_from_slice(word);
         }
     }
 }
@@ -140,7 +141,7 @@ fn put_leaves(marks: &[bool], number: u32, labels: &mut [bool])
     }
 }
 
-// The score of all values for all bits of a word.
+// The score of a node's values for the bits of a word of the node's length.
 pub(crate) fn score_word<K: Scored>(values: &[K], word: &[bool], turns: u32) -> i32
     requires { ⌜ Posed (K·Soft .kind) (now word) turns (now values) ⌝ }
     ensures { λ r. ⌜ r ≡ word-score (K·Scored .scoring) turns (now (values .entry)) (now (word .entry)) ⌝ }

@@ -17,7 +17,7 @@ use polar::walk::Walk;
 use std::error::AnyError;
 
 // Fills the plan, walks its tree, encodes the data and takes them out again.
-pub fn show_block(
+pub(crate) fn show_block(
     rt: &LibcRuntime,
     plan: &mut Plan,
     marks: &[u8],
@@ -85,7 +85,7 @@ fn show_codeword(rt: &LibcRuntime, plan: &Plan, data: &[u8]) -> Result<(), AnyEr
 }
 
 // Leaves labelled 0 1 0 0 1 1 at length 6.
-pub fn show_leaves(rt: &LibcRuntime) -> Result<(), AnyError> {
+pub(crate) fn show_leaves(rt: &LibcRuntime) -> Result<(), AnyError> {
     let mut labels = [false, true, false, false, true, true];
     println!(rt, "  leaves    {}", Marks(&labels))?;
     transform(&mut labels);
@@ -95,7 +95,7 @@ pub fn show_leaves(rt: &LibcRuntime) -> Result<(), AnyError> {
     Ok(())
 }
 
-pub fn show_refusals(rt: &LibcRuntime, plan: &mut Plan) -> Result<(), AnyError> {
+pub(crate) fn show_refusals(rt: &LibcRuntime, plan: &mut Plan) -> Result<(), AnyError> {
     let mut out = [0u8; 5];
     show(rt, "length 0", plan.fill(0, &[]))?;
     show(rt, "length 4097", plan.fill(4097, &[1]))?;

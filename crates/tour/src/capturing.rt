@@ -3,6 +3,8 @@ use crate::show::Bits;
 use crate::show::BitsDisplay;
 use crate::show::Counts;
 use crate::show::CountsDisplay;
+use crate::show::Hex;
+use crate::show::HexDisplay;
 use crate::show::Levels;
 use crate::show::LevelsDisplay;
 use crate::show::Refused;
@@ -17,7 +19,7 @@ const WORD: [u8; 6] = [0, 1, 1, 0, 1, 1];
 // The working days of a year.
 const DAYS: u32 = 250;
 
-pub fn show_capture(rt: &LibcRuntime, plan: &Plan) -> Result<(), AnyError> {
+pub(crate) fn show_capture(rt: &LibcRuntime, plan: &Plan) -> Result<(), AnyError> {
     let mut capture = Capture::new(rt.alloc())?;
     println!(rt, "A capture of the data 11 with exponent 3")?;
     if let Err(refusal) = capture.make(plan, 3, &[1, 1]) {
@@ -83,22 +85,42 @@ fn edit(
     show_state(rt, capture)
 }
 
-// A year of exporting and importing, after which no count has moved.
+// A year of exporting, importing, saving and loading, after which no count has moved.
 fn reopen(rt: &LibcRuntime, capture: &mut Capture) -> Result<(), AnyError> {
     let mut levels = [0.0f32; 6];
-    let done = export_and_import(capture, &mut levels);
+    let mut bytes = [0u8; 20];
+    let done = keep_for_a_year(capture, &mut levels, &mut bytes);
     println!(rt, "  levels    {}", Levels(&levels))?;
-    println!(rt, "After {done} rounds of export and import")?;
-    show_state(rt, capture)
+    println!(rt, "  bytes     {}", Hex(&bytes[0..14]))?;
+    println!(rt, "After {done} days of export, import, save and load")?;
+    show_state(rt, capture)?;
+    show_damage(rt, capture)
 }
 
-// How many rounds were accepted.
-fn export_and_import(capture: &mut Capture, levels: &mut [f32]) -> u32 {
+// How many days every call was accepted.
+fn keep_for_a_year(capture: &mut Capture, levels: &mut [f32], bytes: &mut [u8]) -> u32 {
     let mut done = 0u32;
     for _ in 0..DAYS {
-        if capture.export(levels).is_ok() && capture.import(levels).is_ok() {
+        let reopened = capture.export(levels).is_ok() && capture.import(levels).is_ok();
+        if reopened && resave(capture, bytes) {
             done = done.saturating_add(1);
         }
     }
     done
+}
+
+fn resave(capture: &mut Capture, bytes: &mut [u8]) -> bool {
+    match capture.save(bytes) {
+        Ok(n) if n <= bytes.len() => capture.load(&bytes[0..n]).is_ok(),
+        _ => false,
+    }
+}
+
+// A damaged file is refused at the place of the damage, and the capture stays.
+fn show_damage(rt: &LibcRuntime, capture: &mut Capture) -> Result<(), AnyError> {
+    if let Err(refusal) = capture.load(&[0x01, 0x00]) {
+        println!(rt, "A damaged file, 01 00: {}", Refused(refusal))?;
+    }
+    println!(rt, "  still     {}", Counts(capture.counts()))?;
+    Ok(())
 }

@@ -31,7 +31,7 @@ use std::error::AnyError;
 // The codeword of the data 11 on this plan.
 const WORD: [u8; 6] = [0, 1, 1, 0, 1, 1];
 
-pub fn show_readings(rt: &LibcRuntime, plan: &Plan) -> Result<(), AnyError> {
+pub(crate) fn show_readings(rt: &LibcRuntime, plan: &Plan) -> Result<(), AnyError> {
     let limit = 127 * plan.weight();
     println!(
         rt,

@@ -73,3 +73,19 @@ pub impl fmt::Display for Levels<'_> as LevelsDisplay {
         Ok(())
     }
 }
+
+// Bytes as two hexadecimal digits each, with a space between them.
+#[derive(Drop)]
+pub struct Hex<'a>(pub &'a [u8]);
+
+pub impl fmt::Display for Hex<'_> as HexDisplay {
+    fn fmt<W: fmt::Write>(&self, f: &mut fmt::Formatter<W>) -> fmt::Result {
+        for (i, b) in self.0.iter().enumerate() {
+            if i > 0 {
+                write!(f, " ")?;
+            }
+            write!(f, "{b:02X}")?;
+        }
+        Ok(())
+    }
+}

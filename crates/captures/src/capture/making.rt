@@ -2,9 +2,10 @@
 ghost use mathlib.Core.Path.{_≡_};
 ghost use mathlib.Core.Bool.{true, false};
 ghost use mathlib.Core.List.{_∷_, [], map};
-ghost use Prim.Native.Nat.{_≤_};
+ghost use Prim.Native.Nat.{_≤_, _<_};
 ghost use lib.ListN.{length};
 ghost use Rattle.std.specs.Vec.{made};
+ghost use Rattle.polar.specs.Words.{trues};
 ghost use Rattle.polar.specs.Bytes.{bits};
 ghost use Rattle.polar.specs.Plans.{marks-of};
 ghost use Rattle.captures.specs.Tops.{top-count, Within-top};
@@ -50,20 +51,21 @@ impl Capture {
         let mut room = [0i16; MAX_LENGTH];
         let counts = &mut room[0..plan.length()];
         put_full_counts(&word[0..plan.length()], counts);
-        self.replace(plan, counts, exponent);
+        self.replace(plan.marks(), counts, exponent);
         Ok(())
     }
 
-    // Puts a copy of the plan, these counts and this exponent in the place of the old ones, within the reserved room.
-    pub(crate) fn replace(&mut self, plan: &Plan, counts: &[i16], exponent: u8)
-        requires same { ⌜ length (now counts) ≡ length (marks-of (now plan)) ⌝ }
+    // Puts these marks, counts and exponent in the place of the old ones, within the reserved room.
+    pub(crate) fn replace(&mut self, marks: &[bool], counts: &[i16], exponent: u8)
+        requires plan { ⌜ 1 ≤ length (now marks) ⌝ ∗ ⌜ length (now marks) ≤ 4096 ⌝ ∗ ⌜ 0 < trues (now marks) ⌝ }
+        requires same { ⌜ length (now counts) ≡ length (now marks) ⌝ }
         requires within { ⌜ Within-top top-count (now counts) ⌝ }
         requires small { ⌜ exponent ≤ 6 ⌝ }
-        ensures { λ _. ⌜ captured (now (self .exit)) ≡ capture-of (marks-of (now (plan .entry))) (now (counts .entry)) exponent ⌝ }
+        ensures { λ _. ⌜ captured (now (self .exit)) ≡ capture-of (now (marks .entry)) (now (counts .entry)) exponent ⌝ }
     {
         self.counts.clear();
         let _ = self.counts.extend_from_slice(counts);
-        self.plan.copy_from(plan);
+        let _ = self.plan.set_marks(marks);
         self.exponent = exponent;
     }
 }

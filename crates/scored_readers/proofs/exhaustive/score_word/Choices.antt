@@ -10,4 +10,5 @@ use Rattle.scored_readers.proofs.exhaustive.score_word.Given as given
 abbrev pub Inv-loop-i : given.InvT-loop-i
 Inv-loop-i g l =
     let score = g .K·Scored .scoring in
-    (l .sum +ℤ word-score score (l .turns) (drop (l .i) (l .values)) (drop (l .i) (l .word)) ≡ word-score score (l .turns) (l .values) (l .word)) × (natAbs (l .sum) ≤ l .i * limit (g .K·Soft .kind) (l .turns))
+    (l .sum +ℤ word-score score (l .turns) (drop (l .i) (l .values)) (drop (l .i) (l .word)) ≡ word-score score (l .turns) (l .values) (l .word))
+    × (natAbs (l .sum) ≤ l .i * limit (g .K·Soft .kind) (l .turns))

@@ -3,6 +3,7 @@ use mathlib.Core.Bool.{Bool}
 use mathlib.Core.List.{List, _++_}
 use Prim.Native.Nat.{ℕ, _+_, _-_, _^_, _≤_}
 use native.Mathlib.Omega.{arith}
+use borrow.Author.Differences.{ints}
 use lib.ListN.{length, take}
 use lib.Pow.{pow-mono}
 use mir.Syntax.{w32}
@@ -27,11 +28,8 @@ loop-number-holds g c =
     let first = c .copy-from-slice .ensures .after ∙ in-front marks _ 0 (c .put-first-words .ensures) in
     (c .put-first-words .ensures, (first, back ∙ c .score-word-top .ensures ∙ ap (word-score (g .K·Scored .scoring) (c .args .turns) (c .args .values .now)) first))
 
-pub part-score-word-end : need.part-score-word-end
-part-score-word-end g c = omega (arith, length-rows (c .args .marks .now) (c .put-next-word .last .rows) (c .loop-number .number + 1) 1 (c .put-next-word .ensures))
-
-pub part-copy-from-slice-end-then-top-score : need.part-copy-from-slice-end-then-top-score
-part-copy-from-slice-end-then-top-score g c = omega (arith, length-rows (c .args .marks .now) (c .put-next-word .last .rows) (c .loop-number .number + 1) 1 (c .put-next-word .ensures))
+pub part-word-end : need.part-word-end
+part-word-end g c = omega (arith, length-rows (c .args .marks .now) (c .put-next-word .last .rows) (c .loop-number .number + 1) 1 (c .put-next-word .ensures))
 
 pub loop-number-again : need.loop-number-again
 loop-number-again g c =
@@ -47,7 +45,9 @@ loop-number-again g c =
     let scored = back ∙ c .score-word-score .ensures in (
       made,
       elim (c .if-top-score .came) [
-        | then-top-score w ↦ better word score n _ _ _ next scored (inv .1 .1) (w .if-top-score .taken) _ _ (w .out-is ∙ w .copy-from-slice-then-top-score .ensures .after) (w .top-is)
+        | then-top-score w ↦
+            let copied = w .out-is ∙ w .copy-from-slice-then-top-score .ensures .after in
+            better word score n _ _ _ next scored (inv .1 .1) (grind (arith, ints, w .if-top-score .taken)) _ _ copied (w .top-is)
         | else-top-score w ↦ no-better word score n _ _ _ next scored (inv .1 .1) (w .if-top-score .left) _ _ _ (inv .1 .0) (w .out-is) (w .top-is)
       ],
     )

@@ -13,4 +13,5 @@ add-active c = omega (arith, trues-bound (c .args .marks .now), c .count-ones-ac
 pub returns-then-active-marks-2 : need.returns-then-active-marks-2
 returns-then-active-marks-2 c =
     let count = c .count-ones-active .ensures in
-    pattern-check (c .args .marks .now) (λ none. c .if-active-eq0 .left (count ∙ none)) (λ full. c .if-active-marks .left (count ∙ full)) (c .if-not-marks .taken) (c .if-marks-gt1 .taken) (omega (arith, c .if-active-marks-2 .taken))
+    pattern-check (c .args .marks .now) (λ none. c .if-active-eq0 .left (count ∙ none)) (λ full. c .if-active-marks .left (count ∙ full))
+    (c .if-not-marks .taken) (c .if-marks-gt1 .taken) (omega (arith, c .if-active-marks-2 .taken))

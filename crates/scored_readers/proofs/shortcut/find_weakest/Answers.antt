@@ -1,26 +1,29 @@
 use mathlib.Core.Path.{_≡_, refl, sym, ap, _∙_}
 use mathlib.Core.Bool.{true, false}
-use mathlib.Core.List.{List, map}
-use native.Mathlib.Omega.{arith}
+use mathlib.Core.List.{List}
 use Prim.Native.Nat.{ℕ, _+_, _-_, _<_, _≤_}
+use native.Mathlib.Omega.{arith}
 use borrow.Author.Differences.{ints}
 use lib.Dec.{T}
 use lib.IntN.{pos, negℤ}
 use lib.ListN.{length, getD}
 use lib.Signed.{ltZ}
-use Rattle.scored_readers.specs.ShortcutReading.{score-width}
-use Rattle.scored_readers.specs.ExhaustiveReading.{best}
 use Rattle.std.proofs.shelf.Lists.{getD-map}
+use Rattle.soft.specs.Kind.{Score}
 use Rattle.readers.proofs.Rows.{all-read}
-use Rattle.scored_readers.proofs.Largest.{better, no-better}
-use Rattle.scored_readers.proofs.Largest.{best-least}
+use Rattle.scored_readers.specs.ExhaustiveReading.{best}
+use Rattle.scored_readers.specs.ShortcutReading.{score-width, closeness}
+use Rattle.scored_readers.proofs.Largest.{best-least, better, no-better}
 use Rattle.scored_readers.proofs.shortcut.find_weakest.Needs as need
 use Rattle.scored_readers.proofs.shortcut.find_weakest.Needs.{then-next-narrow, else-next-narrow}
 
-map-read : {A : Type 0} (f : A → ℕ) (xs : List A) (i : ℕ) (x : A) → i < length xs → x ≡ getD xs i x → f x ≡ getD (map f xs) i 0
-map-read f xs i x h read = ap f read ∙ sym (getD-map f xs i x 0 h)
+-- a place's closeness, from the width of the value there
+close-at : {K : Type 0} (score : Score K) (turns : ℕ) (values : List K) (i : ℕ) (v : K) (n : ℕ) → i < length values → v ≡ getD values i v → n ≡ score-width score turns v
+    → negℤ (pos n) ≡ closeness score turns values i
+close-at score turns values i v n within read is =
+    ap (λ k. negℤ (pos k)) (is ∙ ap (score-width score turns) read ∙ sym (getD-map (score-width score turns) values i v 0 within))
 
--- the wider of two widths has the smaller opposite
+-- the wider of two lies less close
 narrower : (a b : ℕ) → b < a → ltZ (negℤ (pos a)) (negℤ (pos b)) ≡ true
 narrower a b less = grind (arith, ints)
 
@@ -34,8 +37,7 @@ width-narrow-requires g c κs =
 
 pub loop-i-holds : need.loop-i-holds
 loop-i-holds g c =
-    let width = score-width (g .K·Scored .scoring) (c .args .turns) in
-    (refl, ap (λ n. negℤ (pos n)) (c .width-narrow .ensures ∙ map-read width (c .args .values .now) 0 _ (omega (arith, c .pre .some)) (c .index-values-0 .is)))
+    (refl, close-at (g .K·Scored .scoring) (c .args .turns) (c .args .values .now) 0 _ _ (omega (arith, c .pre .some)) (c .index-values-0 .is) (c .width-narrow .ensures))
 
 pub width-next-requires : need.width-next-requires
 width-next-requires g c κs =
@@ -44,21 +46,25 @@ width-next-requires g c κs =
 
 pub loop-i-again : need.loop-i-again
 loop-i-again g c =
-    let width = score-width (g .K·Scored .scoring) (c .args .turns) in
+    let score = g .K·Scored .scoring in
     let values = c .args .values .now in
     let i = c .loop-i .i in
-    let opposite = λ (k : ℕ). negℤ (pos (getD (map width values) k 0)) in
-    let scored = ap (λ n. negℤ (pos n)) (c .width-next .ensures ∙ map-read width values (i + 1) _ (omega (arith, c .loop-i-test .taken)) (c .index-values-i .is)) in
+    let close = closeness score (c .args .turns) values in
+    let inv = c .loop-i .inv in
+    let next = close-at score (c .args .turns) values (i + 1) _ _ (omega (arith, c .loop-i-test .taken)) (c .index-values-i .is) (c .width-next .ensures) in
     elim (c .if-next-narrow .came) [
-      | then-next-narrow w ↦ better (λ k. k) opposite i (i + 1) _ _ refl scored (c .loop-i .inv .1) (narrower _ _ (w .if-next-narrow .taken)) _ _ (w .place-is) (ap (λ n. negℤ (pos n)) (w .narrow-is))
-      | else-next-narrow w ↦ no-better (λ k. k) opposite i (i + 1) _ _ refl scored (c .loop-i .inv .1) (no-narrower _ _ (w .if-next-narrow .left)) _ _ _ (c .loop-i .inv .0) (w .place-is) (ap (λ n. negℤ (pos n)) (w .narrow-is))
+      | then-next-narrow w ↦
+          let less : c .width-next .result < c .loop-i .narrow = omega (arith, w .if-next-narrow .taken) in
+          better (λ k. k) close i (i + 1) _ _ refl next (inv .1) (narrower _ _ less) (c .if-next-narrow .place) _ (omega (arith, w .place-is)) (ap (λ n. negℤ (pos n)) (w .narrow-is))
+      | else-next-narrow w ↦
+          let more = w .if-next-narrow .left in
+          no-better (λ k. k) close i (i + 1) _ _ refl next (inv .1) (no-narrower _ _ more) _ _ _ (inv .0) (w .place-is) (ap (λ n. negℤ (pos n)) (w .narrow-is))
     ]
 
 pub returns : need.returns
 returns g c =
-    let width = score-width (g .K·Scored .scoring) (c .args .turns) in
     let values = c .args .values .now in
-    let opposite = λ (k : ℕ). negℤ (pos (getD (map width values) k 0)) in
+    let close = closeness (g .K·Scored .scoring) (c .args .turns) values in
     let last : c .loop-i .i ≡ length values - 1 = omega (arith, c .loop-i .kept .i-end, c .loop-i-test .left) in
-    let value = c .loop-i .inv .0 ∙ ap (best opposite) last in
-    record { value = value; within = omega (arith, value, best-least opposite (length values - 1), c .pre .some) }
+    let value = c .loop-i .inv .0 ∙ ap (best close) last in
+    record { value = value; within = omega (arith, value, best-least close (length values - 1), c .pre .some) }

@@ -49,8 +49,11 @@ replace-requires c κs =
     let at = need.at·replace-requires c .After-put-full-counts in
     let plan = c .args .plan .now in
     let w = codeword (marks-of plan) (bits (c .args .«data» .now)) in
+    let size = sized plan in
+    let marks = c .marks .ensures in
     record {
-      same = ap length (counts-are at) ∙ length-map w (full top-count) ∙ length-codeword (marks-of plan) (bits (c .args .«data» .now)) (sized plan .0);
+      plan = rw marks (size .0, (size .1, size .2));
+      same = ap length (counts-are at) ∙ length-map w (full top-count) ∙ length-codeword (marks-of plan) (bits (c .args .«data» .now)) (sized plan .0) ∙ ap length (sym marks);
       within = subst (Within-top top-count) (sym (counts-are at)) (within-from-all top-count (map (full top-count) w) (full-within top-count w));
       small = omega arith;
     }
@@ -61,4 +64,4 @@ returns-in-Err c = (dues-agree (need.at·returns-in-Err c .Else-exponent-gt6) �
 pub returns : need.returns
 returns c =
     let at = need.at·returns c .After-put-full-counts in
-    (dues-agree (need.at·returns c .Else-exponent-gt6) ∙ c .in-rest .ensures tt .value .0, c .replace .ensures ∙ ap (λ counts. capture-of (marks-of (c .args .plan .now)) counts (c .args .exponent)) (counts-are at))
+    (dues-agree (need.at·returns c .Else-exponent-gt6) ∙ c .in-rest .ensures tt .value .0, c .replace .ensures ∙ ap (λ ms. capture-of ms (c .put-full-counts .last .counts) (c .args .exponent)) (c .marks .ensures) ∙ ap (λ counts. capture-of (marks-of (c .args .plan .now)) counts (c .args .exponent)) (counts-are at))

@@ -1,0 +1,10 @@
+pub mod Steps
+pub mod Forms
+pub mod RoundTrip
+pub mod Spelling
+pub mod Places
+pub mod Outcomes
+pub mod Puts
+pub mod Turns
+pub mod Rows
+pub mod Dues
