@@ -1,5 +1,7 @@
 // The tests of the libraries: worked figures and the edges of every call.
 #[cfg(test)]
+mod assuring;
+#[cfg(test)]
 mod capturing;
 #[cfg(test)]
 mod code;

@@ -1,4 +1,5 @@
-// A capture of the 6-symbol block: made, edited, exported and imported.
+// A capture of the 6-symbol block: made, edited, reopened for a year and read.
+use crate::assuring::show_assurance;
 use crate::show::Bits;
 use crate::show::BitsDisplay;
 use crate::show::Counts;
@@ -94,6 +95,7 @@ fn reopen(rt: &LibcRuntime, capture: &mut Capture) -> Result<(), AnyError> {
     println!(rt, "  bytes     {}", Hex(&bytes[0..14]))?;
     println!(rt, "After {done} days of export, import, save and load")?;
     show_state(rt, capture)?;
+    show_assurance(rt, capture)?;
     show_damage(rt, capture)
 }
 

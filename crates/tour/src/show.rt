@@ -58,6 +58,22 @@ pub impl fmt::Display for Counts<'_> as CountsDisplay {
     }
 }
 
+// Places, with a space between them.
+#[derive(Drop)]
+pub struct Places<'a>(pub &'a [usize]);
+
+pub impl fmt::Display for Places<'_> as PlacesDisplay {
+    fn fmt<W: fmt::Write>(&self, f: &mut fmt::Formatter<W>) -> fmt::Result {
+        for (i, place) in self.0.iter().enumerate() {
+            if i > 0 {
+                write!(f, " ")?;
+            }
+            write!(f, "{place}")?;
+        }
+        Ok(())
+    }
+}
+
 // Levels, with a space between them.
 #[derive(Drop)]
 pub struct Levels<'a>(pub &'a [f32]);

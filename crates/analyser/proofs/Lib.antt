@@ -1,0 +1,10 @@
+pub mod Keeping
+pub mod Light
+pub mod CaptureReadings
+pub mod Turns
+pub mod Lightest
+pub mod Places
+pub mod Confusion
+pub mod Rows
+pub mod Raised
+pub mod Comparisons

@@ -1,0 +1,5 @@
+pub mod Histories
+pub mod Assurance
+pub mod Reading
+pub mod Comparing
+pub mod Worst
