@@ -268,15 +268,32 @@ record ContentWritten (top : ℕ) (c : Content) (bytes rest : List ℕ) : Type 0
   pub whole : bytes ≡ stored top c ++ rest
   pub sound : Sound top c
 
-only : {n m : ℕ} → m ≤ n → n ≤ m → m ≡ n
-only h k = omega arith
+-- the parts of a content, read one after another
+content-whole : (top : ℕ) (c : Content) (ms : List Bool) (vs : List ℤ) (v n k at at′ : ℕ) (bytes b₁ b₂ b₃ b₄ b₅ rest : List ℕ)
+    → FieldWritten (version top) (version top) v bytes b₁ → FieldWritten 1 4096 n b₁ b₂ → FieldWritten 0 6 k b₂ b₃ → MarksWritten n ms b₃ b₄ → CountsWritten top n vs b₄ b₅
+    → got (content-of ms vs k) at b₅ ≡ got c at′ rest → ContentWritten top c bytes rest
+content-whole top c ms vs v n k at at′ bytes b₁ b₂ b₃ b₄ b₅ rest f₁ f₂ f₃ f₄ f₅ e =
+    let first : v ≡ version top = omega (arith, f₁ .least, f₁ .most) in
+    let long : n ≡ length ms = sym (f₄ .long) in
+    subst (λ c. ContentWritten top c bytes rest) (got-value e) (record {
+      whole = f₁ .whole ∙ ap (λ l. number v ++ l) (f₂ .whole ∙ ap (λ l. number n ++ l) (f₃ .whole ∙ ap (λ l. number k ++ l) (f₄ .whole ∙ ap (λ l. joined number (runs ms) ++ l) (f₅ .whole))))
+          ∙ (λ i. parts (first i) (long i) (content-of ms vs k) (got-rest e i))
+          ∙ sym (in-parts-then top (content-of ms vs k) rest);
+      sound = record {
+        some = subst (λ n. 1 ≤ n) long (f₂ .least);
+        short = subst (λ n. n ≤ 4096) long (f₂ .most);
+        active = f₄ .active;
+        paired = f₅ .long ∙ long;
+        small = f₅ .small;
+        scaled = f₃ .most;
+      };
+    })
 
 content-written : (top at : ℕ) (bytes : List ℕ) (c : Content) (at′ : ℕ) (rest : List ℕ) → Bytes bytes → contentAt top at bytes ≡ got c at′ rest → ContentWritten top c bytes rest
 unfolding contentAt
 content-written top at bytes c at′ rest b e =
-    let first = version top in
-    let v₁ = via (fieldAt first first at bytes) _ c at′ rest e in
-    let f₁ = field-written first first at bytes (v₁ .value) (v₁ .place) (v₁ .bytes) b (v₁ .came) in
+    let v₁ = via (fieldAt (version top) (version top) at bytes) _ c at′ rest e in
+    let f₁ = field-written (version top) (version top) at bytes (v₁ .value) (v₁ .place) (v₁ .bytes) b (v₁ .came) in
     let b₁ = bytes-after (number (v₁ .value)) (v₁ .bytes) (subst Bytes (f₁ .whole) b) in
     let v₂ = via (fieldAt 1 4096 (v₁ .place) (v₁ .bytes)) _ c at′ rest (v₁ .goes) in
     let f₂ = field-written 1 4096 (v₁ .place) (v₁ .bytes) (v₂ .value) (v₂ .place) (v₂ .bytes) b₁ (v₂ .came) in
@@ -289,25 +306,7 @@ content-written top at bytes c at′ rest b e =
     let b₄ = bytes-after (joined number (runs (v₄ .value))) (v₄ .bytes) (subst Bytes (f₄ .whole) b₃) in
     let v₅ = via (countsAt top (v₂ .value) (v₄ .place) (v₄ .bytes)) _ c at′ rest (v₄ .goes) in
     let f₅ = counts-written top (v₂ .value) (v₄ .place) (v₄ .bytes) (v₅ .value) (v₅ .place) (v₅ .bytes) b₄ (v₅ .came) in
-    let ms = v₄ .value in
-    let vs = v₅ .value in
-    let k = v₃ .value in
-    let long : length ms ≡ v₂ .value = f₄ .long in
-    subst (λ c. ContentWritten top c bytes rest) (got-value (v₅ .goes)) (record {
-      whole = f₁ .whole
-          ∙ ap (λ l. number (v₁ .value) ++ l) (f₂ .whole ∙ ap (λ l. number (v₂ .value) ++ l) (f₃ .whole ∙ ap (λ l. number k ++ l) (f₄ .whole ∙ ap (λ l. joined number (runs ms) ++ l) (f₅ .whole ∙ ap (λ l. joined number (map code vs) ++ l) (got-rest (v₅ .goes))))))
-          ∙ ap (λ x. parts x (v₂ .value) (content-of ms vs k) rest) (sym (only (f₁ .least) (f₁ .most)))
-          ∙ ap (λ n. parts first n (content-of ms vs k) rest) (sym long)
-          ∙ sym (in-parts-then top (content-of ms vs k) rest);
-      sound = record {
-        some = subst (λ n. 1 ≤ n) (sym long) (f₂ .least);
-        short = subst (λ n. n ≤ 4096) (sym long) (f₂ .most);
-        active = f₄ .active;
-        paired = f₅ .long ∙ sym long;
-        small = f₅ .small;
-        scaled = f₃ .most;
-      };
-    })
+    content-whole top c (v₄ .value) (v₅ .value) (v₁ .value) (v₂ .value) (v₃ .value) (v₅ .place) at′ bytes (v₁ .bytes) (v₂ .bytes) (v₃ .bytes) (v₄ .bytes) (v₅ .bytes) rest f₁ f₂ f₃ f₄ f₅ (v₅ .goes)
 
 ended-ok : {A : Type 0} (r : Read A) (x : A) → ended r ≡ Ok x → Gets r x []
 ended-ok (got y at []) x e = (at, cc)

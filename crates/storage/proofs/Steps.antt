@@ -110,10 +110,6 @@ mapped-more : {A : Type 0} (xs ys : List A) (r : Read (List A)) → mapped (λ t
 mapped-more xs ys (got t at bytes) = ap (λ l. got l at bytes) (sym (append-assoc xs ys t))
 mapped-more xs ys (refused r) = refl
 
-pub pending-none : {A : Type 0} (r : Read (List A)) → Pending [] r r
-pending-none (got t at bytes) = refl
-pending-none (refused r) = refl
-
 -- one part more: `left` gives ys and then what `next` reads
 pub pending-more : {A : Type 0} (xs ys zs : List A) (left next whole : Read (List A)) → zs ≡ xs ++ ys → Pending xs left whole → left ≡ mapped (λ t. ys ++ t) next → Pending zs next whole
 pending-more xs ys zs left next whole z p e = ap (λ l. mapped (λ t. l ++ t) next) z ∙ sym (mapped-more xs ys next) ∙ ap (mapped (λ t. xs ++ t)) (sym e) ∙ p
@@ -121,8 +117,9 @@ pending-more xs ys zs left next whole z p e = ap (λ l. mapped (λ t. l ++ t) ne
 pub pending-refused : {A : Type 0} (xs : List A) (left whole : Read (List A)) (r : Refusal) → Pending xs left whole → left ≡ refused r → whole ≡ refused r
 pending-refused xs left whole r p e = sym p ∙ ap (mapped (λ t. xs ++ t)) e
 
-pub pending-all : {A : Type 0} (xs : List A) (left whole : Read (List A)) (at : ℕ) (bytes : List ℕ) → Pending xs left whole → left ≡ got [] at bytes → whole ≡ got xs at bytes
-pending-all xs left whole at bytes p e = sym p ∙ ap (mapped (λ t. xs ++ t)) e ∙ ap (λ l. got l at bytes) (append-nil xs)
+-- nothing is left: xs is the whole list zs
+pub pending-all : {A : Type 0} (xs zs : List A) (left whole : Read (List A)) (at : ℕ) (bytes : List ℕ) → xs ≡ zs → Pending xs left whole → left ≡ got [] at bytes → whole ≡ got zs at bytes
+pending-all xs zs left whole at bytes z p e = sym p ∙ ap (mapped (λ t. xs ++ t)) e ∙ ap (λ l. got l at bytes) (append-nil xs ∙ z)
 
 -- one count more, of those from the i-th to the n-th
 module _ (top n i at : ℕ) (bytes : List ℕ) (within : i < n) where

@@ -1,7 +1,8 @@
 use mathlib.Core.Path.{refl, sym, ap}
 use native.Mathlib.Omega.{arith}
+use lib.ListN.{take}
 use Rattle.std.proofs.shelf.Lists.{length-take-le}
-use Rattle.storage.specs.Contents.{top-count}
+use Rattle.storage.specs.Contents.{content-of, top-count}
 use Rattle.storage.specs.Calls.{refusal-in}
 use Rattle.storage.proofs.Outcomes.{loaded-exit, bytes-of}
 use Rattle.storage.proofs.Places.{refusals-are-placed}
@@ -21,15 +22,16 @@ returns-in-Break-header c = record {
 pub returns : need.returns
 returns c =
     let n = c .in-Continue-header .header .length in
+    let content = content-of (take n (c .read-rows .last .marks)) (take n (c .read-rows .last .counts)) (c .in-Continue-header .header .exponent) in
     let given = c .in-Continue-header .ensures tt .fronts in
     let short = c .in-Continue-header .ensures tt .sized .1 in
-    let law = accepts-only-what-is-stored top-count _ _ (bytes-of _ (c .typed .bytes)) given in
+    let law = accepts-only-what-is-stored top-count _ content (bytes-of _ (c .typed .bytes)) given in
     let long = c .read-rows .kept .marks in
     record {
       loaded = (
         ap refusal-in given,
         record {
-          content = _;
+          content = content;
           given = given;
           same = law .1;
           sound = law .0;

@@ -8,8 +8,7 @@ use mir.Val.{SFits}
 use Rattle.std.proofs.shelf.Lists.{take-all, take-more-set}
 use Rattle.std.proofs.shelf.Signed.{toZ-ofZ}
 use Rattle.storage.specs.Contents.{top-count}
-use Rattle.storage.specs.Cursors.{rest}
-use Rattle.storage.specs.Reading.{got, count-of}
+use Rattle.storage.specs.Reading.{count-of}
 use Rattle.storage.proofs.Steps.{pending-more, pending-refused, pending-all, counts-more, counts-refused, counts-all, fills-exit}
 use Rattle.storage.proofs.cursor.Cursor.counts.Needs as need
 
@@ -27,6 +26,5 @@ loop-i-again c =
 
 pub returns : need.returns
 returns c =
-    let d = c .loop-i .self in
-    pending-all _ _ _ _ _ (c .loop-i .inv) (counts-all top-count (length (c .args .counts .now)) (c .loop-i .i) _ _ (c .loop-i-test .left))
-    ∙ ap (λ l. got l (d .at) (rest d)) (take-all (c .loop-i .i) (c .loop-i .counts) (omega (arith, c .loop-i .kept .counts)))
+    pending-all _ _ _ _ _ _ (take-all (c .loop-i .i) (c .loop-i .counts) (omega (arith, c .loop-i .kept .counts))) (c .loop-i .inv)
+    (counts-all top-count (length (c .args .counts .now)) (c .loop-i .i) _ _ (c .loop-i-test .left))

@@ -6,7 +6,7 @@ use lib.ListN.{length, take, drop, replicate, length-replicate, length-drop}
 use Rattle.std.proofs.shelf.Lists.{take-all, length-take-le}
 use Rattle.std.proofs.shelf.Parts.{take-putMid}
 use Rattle.storage.specs.Cursors.{rest}
-use Rattle.storage.specs.Reading.{got, fieldAt}
+use Rattle.storage.specs.Reading.{fieldAt}
 use Rattle.storage.proofs.Steps.{pending-more, pending-refused, pending-all, runs-next, runs-refused, runs-all, fills-exit}
 use Rattle.storage.proofs.cursor.Cursor.later_runs.Needs as need
 
@@ -42,6 +42,5 @@ loop-from-again c =
 pub returns : need.returns
 returns c =
     let inv = c .loop-from .inv .1 in
-    let d = c .loop-from .self in
-    pending-all _ _ _ _ _ (inv .2) (runs-all (inv .0) _ (length (c .args .marks .now) - c .loop-from .from) _ _ (omega arith))
-    ∙ ap (λ l. got l (d .at) (rest d)) (take-all (c .loop-from .from) (c .loop-from .marks) (c .loop-from-test .left))
+    pending-all _ _ _ _ _ _ (take-all (c .loop-from .from) (c .loop-from .marks) (c .loop-from-test .left)) (inv .2)
+    (runs-all (inv .0) _ (length (c .args .marks .now) - c .loop-from .from) _ _ (omega arith))
