@@ -38,7 +38,7 @@ fn decoded(c: u32) -> i16
 }
 
 impl<'a> Cursor<'a> {
-    pub fn new(bytes: &'a [u8]) -> Self
+    pub(crate) fn new(bytes: &'a [u8]) -> Self
         ensures { λ r. ⌜ (r .at ≡ 0) × (rest r ≡ now (bytes .entry)) ⌝ }
     {
         Cursor { bytes, at: 0 }
@@ -80,7 +80,7 @@ impl Cursor<'_> {
     }
 
     // A number from `low` to `high`.
-    pub fn field(&mut self, low: u32, high: u32) -> Result<u32, Refusal>
+    pub(crate) fn field(&mut self, low: u32, high: u32) -> Result<u32, Refusal>
         ensures reads { λ r. ⌜ Reads (readBy (fieldAt low high) (now (self .entry))) r (now (self .exit)) ⌝ }
         ensures within { λ r. ⌜ made r (λ v. (low ≤ v) × (v ≤ high)) ⌝ }
     {
@@ -108,7 +108,7 @@ impl Cursor<'_> {
     }
 
     // Fills `marks` by runs of frozen and active marks in turn, frozen first.
-    pub fn marks(&mut self, marks: &mut [bool]) -> Result<(), Refusal>
+    pub(crate) fn marks(&mut self, marks: &mut [bool]) -> Result<(), Refusal>
         requires { ⌜ 1 ≤ length (now marks) ⌝ ∗ ⌜ length (now marks) ≤ 4096 ⌝ }
         ensures { λ r. ⌜ Fills (readBy (marksAt (length (now (marks .entry)))) (now (self .entry))) r (now (marks .exit)) (now (self .exit)) ⌝ }
     {
@@ -118,7 +118,7 @@ impl Cursor<'_> {
     }
 
     // Fills `counts` by their codes.
-    pub fn counts(&mut self, counts: &mut [i16]) -> Result<(), Refusal>
+    pub(crate) fn counts(&mut self, counts: &mut [i16]) -> Result<(), Refusal>
         ensures { λ r. ⌜ Fills (readBy (countsAt top-count (length (now (counts .entry)))) (now (self .entry))) r (now (counts .exit)) (now (self .exit)) ⌝ }
     {
         for i in 0..counts.len() {
@@ -128,7 +128,7 @@ impl Cursor<'_> {
     }
 
     // Refuses bytes that remain.
-    pub fn end(&self) -> Result<(), Refusal>
+    pub(crate) fn end(&self) -> Result<(), Refusal>
         ensures { λ r. ⌜ r ≡ ended (got tt (now (self .entry) .at) (rest (now (self .entry)))) ⌝ }
     {
         if self.at < self.bytes.len() {
