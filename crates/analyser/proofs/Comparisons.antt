@@ -24,13 +24,13 @@ first_unless : (test : Bool) (e why : Refusal) (before later : Option Refusal) �
 first_unless true e why before later is more = more is
 first_unless false e why before later is more = is
 
-module _ {K : Type 0} (reading : Reading K) (ms : List Bool) (soft-places bit-places : ℕ) where
-  pub pile_first : (why : Refusal) (later : Option Refusal) → pile_due reading ms soft-places bit-places None ≡ Some why → pile_due reading ms soft-places bit-places later ≡ Some why
+module _ {K : Type 0} (reading : Reading K) (ms : List Bool) (soft_places bit_places : ℕ) where
+  pub pile_first : (why : Refusal) (later : Option Refusal) → pile_due reading ms soft_places bit_places None ≡ Some why → pile_due reading ms soft_places bit_places later ≡ Some why
   pile_first why later is =
       first_unless (reading.taking ms) NotTaken why _ _ is (λ inner. first_unless _ WorkingRoom why None later inner (λ none. absurd (some_due why (sym none))))
 
   -- a pile that is accepted leaves what is looked for next
-  pub pile_passes : (later : Option Refusal) → pile_due reading ms soft-places bit-places None ≡ None → pile_due reading ms soft-places bit-places later ≡ later
+  pub pile_passes : (later : Option Refusal) → pile_due reading ms soft_places bit_places None ≡ None → pile_due reading ms soft_places bit_places later ≡ later
   pile_passes later none =
       let taken = unless_none (reading.taking ms) NotTaken _ none in
       let room = unless_none _ WorkingRoom None taken.1 in

@@ -25,11 +25,11 @@ all_bits_bytes (false ∷ w) = all_bits_bytes w
 -- data that fit are encoded
 pub encoded_front : (ms : List Bool) (ds before after : List ℕ) (answer : Result ℕ Refusal) (n : ℕ) → 1 ≤ length ms → length ms ≤ length before
     → length ds ≡ trues ms → all_bits ds ≡ true → n ≡ length ms → Encoded ms ds before answer after → bits (take (n - 0) after) ≡ codeword ms (bits ds)
-encoded_front ms ds before after (Ok m) n some room count are-bits is done =
+encoded_front ms ds before after (Ok m) n some room count are_bits is done =
     let w = codeword ms (bits ds) in
     ap bits (front_is n (bytes w) (drop m before) after done.1.1 (length-map w byte ∙ length_codeword ms (bits ds) some ∙ sym is)) ∙ bits_bytes w
-encoded_front ms ds before after (Err e) n some room count are-bits is done =
-    let due : encode_due ms ds (length before) ≡ None = rw (eq-eqb (length ds) (trues ms) count, are-bits, le-ltb (length before) (length ms) room) in
+encoded_front ms ds before after (Err e) n some room count are_bits is done =
+    let due : encode_due ms ds (length before) ≡ None = rw (eq-eqb (length ds) (trues ms) count, are_bits, le-ltb (length before) (length ms) room) in
     absurd (some_due e (sym done.0 ∙ due))
 
 -- no row is too short

@@ -1,4 +1,6 @@
 // The bench program: a stored capture on standard input gives its report on standard output, or the line of its refusal.
+#![tactic(auto)]
+
 use reports::bench::Bench;
 use std::io::{Read, Write};
 

@@ -1,4 +1,6 @@
 // The tests of the libraries: worked figures and the edges of every call.
+#![tactic(auto)]
+
 #[cfg(test)]
 mod assuring;
 #[cfg(test)]

@@ -1,4 +1,6 @@
 // Worked examples: codewords, readings, edits, conversions, stored bytes and printed reports with their known answers.
+#![tactic(auto)]
+
 ghost use Rattle.std.specs.Prelude.{◌≡◌, length};
 ghost use Rattle.examples.specs.Table.{table, EveryRowHolds};
 

@@ -3,7 +3,7 @@ use Rattle.std.proofs.Common.{◌≡◌, ℕ, ◌≤◌, Bool, true, false, List
 use lib.ListN.{length-map}
 use Rattle.polar.specs.Shape.{balanced}
 use Rattle.polar.specs.Words.{trues}
-use Rattle.polar.specs.Bytes.{bit, byte, bits, bytes}
+use Rattle.polar.specs.Bytes.{byte, bits, bytes}
 use Rattle.polar.specs.Marks.{spread, collect}
 use Rattle.polar.specs.Codewords.{codeword, data_of, Encodes, DataReturn}
 use Rattle.polar.proofs.Shapes.{leaves_balanced}

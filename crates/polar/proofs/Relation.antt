@@ -1,13 +1,13 @@
 -- The label of a balanced tree is the one that the relation gives, and no other word is; its parity. Assumes nothing.
-use Rattle.std.proofs.Common.{◌≡◌, ℕ, zero, suc, ◌+◌, ◌-◌, ◌/◌, ◌%◌, ◌<◌, ◌≤◌, Bool, true, false, ◌⊎◌, List, [], ◌∷◌, ◌++◌, length, get_or, take, drop, sym, refl, ap, ◌∙◌, subst, inl, inr, ⊎_elim, arith, length-append, length-drop, take-append-drop, length-take-le, take_at, drop_at}
+use Rattle.std.proofs.Common.{◌≡◌, ℕ, ◌+◌, ◌-◌, ◌/◌, ◌%◌, ◌<◌, ◌≤◌, Bool, true, false, ◌⊎◌, List, [], ◌∷◌, ◌++◌, length, get_or, take, drop, sym, refl, ap, ◌∙◌, subst, inl, inr, ⊎_elim, arith, length-append, length-drop, take-append-drop, length-take-le, take_at, drop_at}
 use Rattle.std.proofs.lemmas.List.{get_or-take}
 use Rattle.std.proofs.lemmas.Bool.{cases_lt}
 use Rattle.polar.specs.Shape.{Shape, leaf, node, leaves, balanced, LeftHeavy}
 use Rattle.polar.specs.Words.{xor, plus, parity}
-use Rattle.polar.specs.Labels.{join, label, unlabel}
+use Rattle.polar.specs.Labels.{join, label}
 use Rattle.polar.specs.LabelLaws.{Added, nothing, passes, adds, Labelled, at_leaf, at_node}
-use Rattle.polar.proofs.Shapes.{balanced_one, balanced_leaf, balanced_node, leaves_balanced, leaves_pos, halves}
-use Rattle.polar.proofs.Label.{length_left, length_right, length_label, label_unlabel}
+use Rattle.polar.proofs.Shapes.{balanced_one, balanced_node, leaves_balanced, leaves_pos, halves}
+use Rattle.polar.proofs.Label.{length_left, length_right, length_label}
 
 -- x + y by the relation is `plus`
 added_plus : (x y : List Bool) → length y ≤ length x → length x ≤ length y + 1 → Added x y (plus x y)

@@ -1,5 +1,5 @@
 -- Whole runs of a walk: the k-th answer is the k-th node in reading order. Assumes nothing.
-use Rattle.std.proofs.Common.{◌≡◌, ℕ, zero, suc, List, [], ◌∷◌, length, drop, Some, None, Option, sym, refl, ap, ◌∙◌}
+use Rattle.std.proofs.Common.{◌≡◌, ℕ, zero, suc, List, [], ◌∷◌, length, drop, Some, None, Option, refl, ap, ◌∙◌}
 use Rattle.std.specs.List.{slice_get}
 use Rattle.polar.specs.declared.frame.Node.{Node}
 use Rattle.polar.specs.declared.walk.Walk.{Walk}

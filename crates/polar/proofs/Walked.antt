@@ -1,12 +1,11 @@
 -- What a walk's steps do to its frames. Assumes nothing.
-use Rattle.std.proofs.Common.{◌≡◌, ℕ, zero, suc, ◌+◌, ◌-◌, ◌/◌, ◌^◌, ◌<◌, ◌≤◌, true, false, ◌≢◌, List, [], ◌∷◌, ◌++◌, length, take, set, sym, refl, ap, ◌∙◌, subst, ⊎_elim, append_assoc, append-nil, add-zero, add_assoc, zero-add, arith, get_or-set_other, get_or-set_same}
+use Rattle.std.proofs.Common.{◌≡◌, ℕ, zero, suc, ◌+◌, ◌-◌, ◌/◌, ◌^◌, ◌<◌, ◌≤◌, true, false, ◌≢◌, List, [], ◌∷◌, ◌++◌, length, take, set, sym, refl, ap, ◌∙◌, subst, ⊎_elim, append_assoc, append-nil, add-zero, zero-add, arith, get_or-set_other, get_or-set_same}
 use mathlib.Core.List.{nil≢cons}
 use Rattle.std.proofs.lemmas.List.{take_more, take-set}
 use Rattle.std.proofs.lemmas.Bool.{cases_eq, cases_lt}
 use Rattle.std.proofs.lemmas.Bool.Decides.{nat_tests}
 use Rattle.polar.specs.Shape.{Shape, leaf, node, leaves, balanced}
 use Rattle.polar.specs.Preorder.{node_at, nodes, reading_order, under, under_right, todo_by, todo, later, pending, turning, turn_by, turned, fresh, kind_of, more_done, one_more, frame_at, ahead, here, Stepped}
-use Rattle.polar.specs.declared.frame.Node.{Node}
 use Rattle.polar.specs.declared.frame.Frame.{Frame}
 use Rattle.polar.specs.declared.frame.Kind.TheVariants.{Leaf, Inner}
 use Rattle.polar.specs.declared.frame.Done.{Done}

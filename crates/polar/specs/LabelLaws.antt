@@ -1,5 +1,5 @@
 -- Labels as a relation: what it is for a node to have a label. Assumes nothing.
-use Rattle.std.specs.Prelude.{◌≡◌, ℕ, ◌+◌, ◌≤◌, Bool, true, false, ◌⊎◌, List, [], ◌∷◌, ◌++◌, length}
+use Rattle.std.specs.Prelude.{◌≡◌, ℕ, ◌+◌, Bool, ◌⊎◌, List, [], ◌∷◌, ◌++◌}
 use Rattle.polar.specs.Words.{xor}
 
 -- z is x + y modulo 2, place by place; an odd last bit of x has no partner and passes through

@@ -1,4 +1,6 @@
 // Balanced-tree polar codes: the coding tree and a walk over its nodes, labels, plans of active leaves, and codewords.
+#![tactic(auto)]
+
 pub mod bits;
 pub mod code;
 pub mod frame;

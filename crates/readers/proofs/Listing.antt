@@ -90,14 +90,14 @@ module _ {K : Type 0} (kind : Kind K) where
   total_none values word i past = ap (λ vs. total kind 0 vs (bits (drop i word))) (drop_all i values past)
 
   -- what an accepted pile has: it takes the marks, and its places are there
-  pub pile_facts : (reading : Reading K) (ms : List Bool) (soft-places bit-places : ℕ) → pile_due reading ms soft-places bit-places None ≡ None
+  pub pile_facts : (reading : Reading K) (ms : List Bool) (soft_places bit_places : ℕ) → pile_due reading ms soft_places bit_places None ≡ None
       → (reading.taking ms ≡ true) × (reading.soft_need (length ms) ≤ most_places) × (reading.bit_need (length ms) ≤ most_places)
-      × (reading.soft_need (length ms) + length ms ≤ soft-places) × (reading.bit_need (length ms) + length ms ≤ bit-places)
-  pile_facts reading ms soft-places bit-places none =
+      × (reading.soft_need (length ms) + length ms ≤ soft_places) × (reading.bit_need (length ms) + length ms ≤ bit_places)
+  pile_facts reading ms soft_places bit_places none =
       let taken = unless_none (reading.taking ms) NotTaken _ none in
       let room = (unless_none _ WorkingRoom None taken.1).0 in
-      let abc = and_parts _ (leb (reading.bit_need (length ms) + length ms) bit-places) room in
-      let ab = and_parts _ (leb (reading.soft_need (length ms) + length ms) soft-places) abc.0 in
+      let abc = and_parts _ (leb (reading.bit_need (length ms) + length ms) bit_places) room in
+      let ab = and_parts _ (leb (reading.soft_need (length ms) + length ms) soft_places) abc.0 in
       let a = and_parts (leb (reading.soft_need (length ms)) most_places) (leb (reading.bit_need (length ms)) most_places) ab.0 in
       (taken.0, leb-true _ _ a.0, leb-true _ _ a.1, leb-true _ _ ab.1, leb-true _ _ abc.1)
 

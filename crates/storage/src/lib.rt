@@ -1,4 +1,6 @@
 // The byte form of a block's marks, counts and exponent: storing to bytes and loading from bytes.
+#![tactic(auto)]
+
 mod cursor;
 pub mod loading;
 pub mod storing;

@@ -1,5 +1,7 @@
 // One task from beginning to end, printed step by step: plans and codewords, soft values and readers, and a capture
 // that is edited, exported, imported, saved, loaded and read.
+#![tactic(auto)]
+
 mod assuring;
 mod blocks;
 mod capturing;

@@ -24,7 +24,7 @@ planned s = let size = sized s.plan in record { some = size.0; short = size.1; a
 pub returns-in-Err : goal.returns-in-Err
 returns-in-Err g c =
     let ms = (captured c.args.capture.now).marks_row in
-    let kept = g.R.Reader.reading c.args.kept-reader.now in
+    let kept = g.R.Reader.reading c.args.kept_reader.now in
     let due : pile_due kept ms (length c.args.counts.now) (length c.args.bits.now) None ≡ Some c.in-Err.refusal = rw (sym c.plan-plan.ensures) c.in-Err.ensures.0 in
     record {
       value = (pile_first kept ms (length c.args.counts.now) (length c.args.bits.now) c.in-Err.refusal _ due, refl);
@@ -34,22 +34,22 @@ returns-in-Err g c =
       tight = cannot_be_raised top_count _ (planned c.args.capture.now);
     }
 
-pub returns-in-Err-read-list : goal.returns-in-Err-read-list
-returns-in-Err-read-list g c =
+pub returns-in-Err-read_list : goal.returns-in-Err-read_list
+returns-in-Err-read_list g c =
     let s = c.args.capture.now in
     let ms = (captured s).marks_row in
-    let kept = g.R.Reader.reading c.args.kept-reader.now in
-    let fresh = g.P.Reader.reading c.args.fresh-reader.now in
-    let soft-len = length c.args.soft.now in
+    let kept = g.R.Reader.reading c.args.kept_reader.now in
+    let fresh = g.P.Reader.reading c.args.fresh_reader.now in
+    let soft_len = length c.args.soft.now in
     let counts-len = length c.args.counts.now in
-    let bits-len = length c.args.bits.now in
-    let accepted : pile_due kept ms counts-len bits-len None ≡ None = rw (sym c.plan-plan.ensures) c.in-default.ensures.0 in
-    let refused : list_due g.K.Soft.kind g.K.Listed.unfit ms c.args.values.now (pile_due fresh ms soft-len bits-len (output_due ms 4096)) ≡ Some c.in-Err-read-list.refusal =
-    rw (sym c.plan-plan.ensures) c.in-Err-read-list.ensures.value.0 in
-    let due = pile_passes kept ms counts-len bits-len _ accepted
-    ∙ ap (λ o. list_due g.K.Soft.kind g.K.Listed.unfit ms c.args.values.now (pile_due fresh ms soft-len bits-len o)) (sym (output_never ms (planned s)))
+    let bits_len = length c.args.bits.now in
+    let accepted : pile_due kept ms counts-len bits_len None ≡ None = rw (sym c.plan-plan.ensures) c.in_default.ensures.0 in
+    let refused : list_due g.K.Soft.kind g.K.Listed.unfit ms c.args.values.now (pile_due fresh ms soft_len bits_len (output_due ms 4096)) ≡ Some c.in-Err-read_list.refusal =
+    rw (sym c.plan-plan.ensures) c.in-Err-read_list.ensures.value.0 in
+    let due = pile_passes kept ms counts-len bits_len _ accepted
+    ∙ ap (λ o. list_due g.K.Soft.kind g.K.Listed.unfit ms c.args.values.now (pile_due fresh ms soft_len bits_len o)) (sym (output_never ms (planned s)))
     ∙ refused in
-    let same = c.in-Err-read-list.ensures.value.1 in
+    let same = c.in-Err-read_list.ensures.value.1 in
     record {
       value = (due, ap (λ (b : Buffers _). lent b.soft_row c.args.counts.now b.bit_row) same);
       free = search rules;
@@ -58,55 +58,55 @@ returns-in-Err-read-list g c =
       tight = cannot_be_raised top_count ms (planned s);
     }
 
-pub returns-in-Ok-read-counts : goal.returns-in-Ok-read-counts
-returns-in-Ok-read-counts g c =
+pub returns-in-Ok-read_counts : goal.returns-in-Ok-read_counts
+returns-in-Ok-read_counts g c =
     let s = c.args.capture.now in
     let now = captured s in
     let ms = now.marks_row in
     let kind = g.K.Soft.kind in
     let values = c.args.values.now in
-    let kept = g.R.Reader.reading c.args.kept-reader.now in
-    let fresh = g.P.Reader.reading c.args.fresh-reader.now in
-    let soft-len = length c.args.soft.now in
+    let kept = g.R.Reader.reading c.args.kept_reader.now in
+    let fresh = g.P.Reader.reading c.args.fresh_reader.now in
+    let soft_len = length c.args.soft.now in
     let counts-len = length c.args.counts.now in
-    let bits-len = length c.args.bits.now in
-    let accepted : pile_due kept ms counts-len bits-len None ≡ None = rw (sym c.plan-plan.ensures) c.in-default.ensures.0 in
-    let read : DataWritten fresh ms values (replicate 4096 0) c.read-list.new.out c.in-Ok.len = rw (sym c.plan-plan.ensures) c.in-Ok.ensures.value.1 in
-    let list : list_due kind g.K.Listed.unfit ms values (pile_due fresh ms soft-len bits-len (output_due ms 4096)) ≡ None = rw (sym c.plan-plan.ensures) c.in-Ok.ensures.value.0 in
-    let open-list : list_due kind g.K.Listed.unfit ms values (pile_due fresh ms soft-len bits-len None) ≡ None =
-    ap (λ o. list_due kind g.K.Listed.unfit ms values (pile_due fresh ms soft-len bits-len o)) (sym (output_never ms (planned s))) ∙ list in
+    let bits_len = length c.args.bits.now in
+    let accepted : pile_due kept ms counts-len bits_len None ≡ None = rw (sym c.plan-plan.ensures) c.in_default.ensures.0 in
+    let read : DataWritten fresh ms values (replicate 4096 0) c.read_list.new.out c.in-Ok.len = rw (sym c.plan-plan.ensures) c.in-Ok.ensures.value.1 in
+    let list : list_due kind g.K.Listed.unfit ms values (pile_due fresh ms soft_len bits_len (output_due ms 4096)) ≡ None = rw (sym c.plan-plan.ensures) c.in-Ok.ensures.value.0 in
+    let open-list : list_due kind g.K.Listed.unfit ms values (pile_due fresh ms soft_len bits_len None) ≡ None =
+    ap (λ o. list_due kind g.K.Listed.unfit ms values (pile_due fresh ms soft_len bits_len o)) (sym (output_never ms (planned s))) ∙ list in
     let facts = list_facts kind g.K.Listed.unfit ms values _ open-list in
     let posed = posed_list kind s.plan values ms refl facts.0 facts.1 in
-    let fresh-data : take c.in-Ok.len c.read-list.new.out ≡ bytes (data_read fresh ms values) =
-    front_data kind fresh (g.met.P.Reader.rules c.args.fresh-reader.now) ms values (replicate 4096 0) c.read-list.new.out c.in-Ok.len (pile_facts kind fresh ms soft-len bits-len facts.2).0 posed read in
-    let kept-data : take c.in-Ok-read-counts.len c.read-counts.new.out ≡ bytes (data_kept kept now) =
-    front_data count_kind kept (g.met.R.Reader.rules c.args.kept-reader.now) ms (values_of counted now) (replicate 4096 0) c.read-counts.new.out c.in-Ok-read-counts.len (pile_facts count_kind kept ms counts-len bits-len accepted).0
-    (posed_capture count_kind counted (λ v small. le-leb (nat_abs v) top_count small) s) c.in-Ok-read-counts.ensures.value.1 in
+    let fresh-data : take c.in-Ok.len c.read_list.new.out ≡ bytes (data_read fresh ms values) =
+    front_data kind fresh (g.met.P.Reader.rules c.args.fresh_reader.now) ms values (replicate 4096 0) c.read_list.new.out c.in-Ok.len (pile_facts kind fresh ms soft_len bits_len facts.2).0 posed read in
+    let kept-data : take c.in-Ok-read_counts.len c.read_counts.new.out ≡ bytes (data_kept kept now) =
+    front_data count_kind kept (g.met.R.Reader.rules c.args.kept_reader.now) ms (values_of counted now) (replicate 4096 0) c.read_counts.new.out c.in-Ok-read_counts.len (pile_facts count_kind kept ms counts-len bits_len accepted).0
+    (posed_capture count_kind counted (λ v small. le-leb (nat_abs v) top_count small) s) c.in-Ok-read_counts.ensures.value.1 in
     let from_front = λ (n : ℕ) (row : List ℕ). ap (λ k. take k row) (sub-zero n) in
-    let fresh-front = from_front c.in-Ok.len c.read-list.new.out ∙ fresh-data in
-    let kept-front = from_front c.in-Ok-read-counts.len c.read-counts.new.out ∙ kept-data in
+    let fresh-front = from_front c.in-Ok.len c.read_list.new.out ∙ fresh-data in
+    let kept-front = from_front c.in-Ok-read_counts.len c.read_counts.new.out ∙ kept-data in
     record {
       value = (
-        pile_passes kept ms counts-len bits-len _ accepted ∙ open-list,
+        pile_passes kept ms counts-len bits_len _ accepted ∙ open-list,
         (
-          λ t. same_data (data_read fresh ms values) (data_kept kept now) (sym fresh-front ∙ c.same-bytes.ensures.same t ∙ kept-front),
-          λ e. c.same-bytes.ensures.equal (fresh-front ∙ ap bytes e ∙ sym kept-front),
+          λ t. same_data (data_read fresh ms values) (data_kept kept now) (sym fresh-front ∙ c.same_bytes.ensures.same t ∙ kept-front),
+          λ e. c.same_bytes.ensures.equal (fresh-front ∙ ap bytes e ∙ sym kept-front),
         ),
       );
       free = search rules;
       near = subst (NearReadsTrue kind ms values) fresh-data (rw (sym c.plan-plan.ensures) c.in-Ok.ensures.near);
-      light = subst (LightHistoriesReadTrue top_count now) kept-data c.in-Ok-read-counts.ensures.light;
+      light = subst (LightHistoriesReadTrue top_count now) kept-data c.in-Ok-read_counts.ensures.light;
       tight = cannot_be_raised top_count ms (planned s);
     }
 
-pub returns-in-Err-read-counts : goal.returns-in-Err-read-counts
-returns-in-Err-read-counts g c =
+pub returns-in-Err-read_counts : goal.returns-in-Err-read_counts
+returns-in-Err-read_counts g c =
     let s = c.args.capture.now in
     let ms = (captured s).marks_row in
-    let kept = g.R.Reader.reading c.args.kept-reader.now in
+    let kept = g.R.Reader.reading c.args.kept_reader.now in
     let counts-len = length c.args.counts.now in
-    let bits-len = length c.args.bits.now in
-    let accepted : pile_due kept ms counts-len bits-len None ≡ None = rw (sym c.plan-plan.ensures) c.in-default.ensures.0 in
-    let refused : pile_due kept ms counts-len bits-len (output_due ms 4096) ≡ Some c.in-Err-read-counts.refusal =
-    ap (λ n. pile_due kept ms counts-len n (output_due ms 4096)) (sym c.read-list.ensures.free.1) ∙ c.in-Err-read-counts.ensures.value.0 in
-    absurd (some_due c.in-Err-read-counts.refusal (sym refused ∙ pile_passes kept ms counts-len bits-len (output_due ms 4096) accepted ∙ output_never ms (planned s)))
+    let bits_len = length c.args.bits.now in
+    let accepted : pile_due kept ms counts-len bits_len None ≡ None = rw (sym c.plan-plan.ensures) c.in_default.ensures.0 in
+    let refused : pile_due kept ms counts-len bits_len (output_due ms 4096) ≡ Some c.in-Err-read_counts.refusal =
+    ap (λ n. pile_due kept ms counts-len n (output_due ms 4096)) (sym c.read_list.ensures.free.1) ∙ c.in-Err-read_counts.ensures.value.0 in
+    absurd (some_due c.in-Err-read_counts.refusal (sym refused ∙ pile_passes kept ms counts-len bits_len (output_due ms 4096) accepted ∙ output_never ms (planned s)))

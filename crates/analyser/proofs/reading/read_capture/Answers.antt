@@ -14,11 +14,11 @@ read-requires g c =
     let spoken = g.K.Spoken.spoken in
     let reading = g.R.Reader.reading c.args.reader.now in
     let same : c.marks-marks.result.now ≡ ms = c.marks-marks.ensures ∙ c.plan-plan.ensures in
-    let due : pile_due reading ms (length c.args.soft.now) (length c.args.bits.now) None ≡ None = rw (sym c.plan-plan.ensures) c.in-default.ensures.0 in
+    let due : pile_due reading ms (length c.args.soft.now) (length c.args.bits.now) None ≡ None = rw (sym c.plan-plan.ensures) c.in_default.ensures.0 in
     let facts = pile_facts g.K.Soft.kind reading ms (length c.args.soft.now) (length c.args.bits.now) due in
-    let is : c.put-values.new.values ≡ values_of spoken (captured s) = c.put-values.ensures ∙ ap (map spoken) c.counts.ensures in
-    let cut = c.split-at-mut-word.ensures in
-    let half = c.split-at-mut-values.ensures in
+    let is : c.put_values.new.values ≡ values_of spoken (captured s) = c.put_values.ensures ∙ ap (map spoken) c.counts.ensures in
+    let cut = c.split_at_mut-word.ensures in
+    let half = c.split_at_mut-values.ensures in
     let long = ap length same in
     rw (same, is) record {
       taken = facts.0;
@@ -37,15 +37,15 @@ returns g c =
     let spoken = g.K.Spoken.spoken in
     let values = values_of spoken (captured s) in
     let reading = g.R.Reader.reading c.args.reader.now in
-    let due : pile_due reading ms (length c.args.soft.now) (length c.args.bits.now) None ≡ None = rw (sym c.plan-plan.ensures) c.in-default.ensures.0 in
+    let due : pile_due reading ms (length c.args.soft.now) (length c.args.bits.now) None ≡ None = rw (sym c.plan-plan.ensures) c.in_default.ensures.0 in
     let facts = pile_facts g.K.Soft.kind reading ms (length c.args.soft.now) (length c.args.bits.now) due in
-    let is : c.put-values.new.values ≡ values = c.put-values.ensures ∙ ap (map spoken) c.counts.ensures in
+    let is : c.put_values.new.values ≡ values = c.put_values.ensures ∙ ap (map spoken) c.counts.ensures in
     let same : c.marks-marks.result.now ≡ ms = c.marks-marks.ensures ∙ c.plan-plan.ensures in
     let word : c.read.new.out ≡ reading.answer ms 0 values = c.read.ensures ∙ ap (λ vs. reading.answer c.marks-marks.result.now 0 vs) is ∙ ap (λ m. reading.answer m 0 values) same in
-    let taken : TakenOut ms c.read.new.out c.args.out.now c.take-out.result c.take-out.new.word c.take-out.new.out =
-    subst (λ m. TakenOut m c.read.new.out c.args.out.now c.take-out.result c.take-out.new.word c.take-out.new.out) c.plan-plan.ensures c.take-out.ensures in
+    let taken : TakenOut ms c.read.new.out c.args.out.now c.take_out.result c.take_out.new.word c.take_out.new.out =
+    subst (λ m. TakenOut m c.read.new.out c.args.out.now c.take_out.result c.take_out.new.word c.take_out.new.out) c.plan-plan.ensures c.take_out.ensures in
     record {
       value = search rules;
       free = search rules;
-      near = near_taken_out g.K.Soft.kind reading (g.met.R.Reader.rules c.args.reader.now) ms values c.read.new.out c.args.out.now c.take-out.result c.take-out.new.word c.take-out.new.out facts.0 (posed_capture g.K.Soft.kind spoken g.met.K.Spoken.fitting s) word taken;
+      near = near_taken_out g.K.Soft.kind reading (g.met.R.Reader.rules c.args.reader.now) ms values c.read.new.out c.args.out.now c.take_out.result c.take_out.new.word c.take_out.new.out facts.0 (posed_capture g.K.Soft.kind spoken g.met.K.Spoken.fitting s) word taken;
     }

@@ -5,10 +5,10 @@ use Rattle.analyser.proofs.reading.read_counts.Goals as goal
 
 pub returns : goal.returns
 returns g c =
-    let done = c.read-capture.ensures in
+    let done = c.read_capture.ensures in
     record {
       value = done.value;
       free = done.free;
       near = done.near;
-      light = light_made (captured c.args.capture.now) c.read-capture.result (λ k. take k c.read-capture.new.out) done.near;
+      light = light_made (captured c.args.capture.now) c.read_capture.result (λ k. take k c.read_capture.new.out) done.near;
     }

@@ -9,7 +9,7 @@ loop-i-preserved g c =
     let counts = c.args.counts.now in
     let i = c.loop-i.i in
     let narrow : SFits w16 (get_or counts i (pos 0)) = search rules in
-    let v : c.of-count.result ≡ spoken (get_or counts i (pos 0)) = c.of-count.ensures ∙ ap spoken (to_z-of_z w16 (get_or counts i (pos 0)) narrow) in
+    let v : c.of_count.result ≡ spoken (get_or counts i (pos 0)) = c.of_count.ensures ∙ ap spoken (to_z-of_z w16 (get_or counts i (pos 0)) narrow) in
     take_more_set c.loop-i.values i _ (omega (arith, c.loop-i.auto.values))
     ∙ ap₂ (λ a z. a ++ z ∷ []) c.loop-i.invariant v
     ∙ sym (map_more spoken counts i (pos 0) c.loop-i-test.true)

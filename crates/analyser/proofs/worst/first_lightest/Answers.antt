@@ -9,8 +9,8 @@ weighs-requires c = record { within = ahead c.args.marks.now c.args.weight c.req
 here : (c : In-loop-leaf) → c.loop-leaf.leaf < length c.args.marks.now
 here c = ahead c.args.marks.now c.args.weight c.requires.value c.requires.least c.loop-leaf.leaf c.loop-leaf.invariant
 
-pub overflow-add-leaf : goal.overflow-add-leaf
-overflow-add-leaf c = record { fits = omega (arith, here c, c.requires.short) }
+pub overflow_add-leaf : goal.overflow_add-leaf
+overflow_add-leaf c = record { fits = omega (arith, here c, c.requires.short) }
 
 pub loop-leaf-smaller : goal.loop-leaf-smaller
 loop-leaf-smaller c = omega (arith, here c)

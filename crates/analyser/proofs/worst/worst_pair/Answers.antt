@@ -13,10 +13,10 @@ use Rattle.analyser.specs.Worst.{plan_weight, FirstLightest, zero_word, leaf_wor
 use Rattle.analyser.proofs.Lightest.{length_leaf_word, first_weighs}
 use Rattle.analyser.proofs.Rows.{all_bits_bytes, nothing_due, row_is, written_tight}
 use Rattle.analyser.proofs.worst.worst_pair.Goals as goal
-use Rattle.analyser.proofs.worst.worst_pair.Goals.{After-first-lightest-leaf, After-fill, After-put-leaf-word}
+use Rattle.analyser.proofs.worst.worst_pair.Goals.{After-first_lightest-leaf, After-fill, After-put_leaf_word}
 
-light : (c : After-first-lightest-leaf) → FirstLightest (marks_of c.args.plan.now) c.first-lightest-leaf.result
-light c = subst (λ ms. FirstLightest ms c.first-lightest-leaf.result) c.marks-marks.ensures c.first-lightest-leaf.ensures
+light : (c : After-first_lightest-leaf) → FirstLightest (marks_of c.args.plan.now) c.first_lightest-leaf.result
+light c = subst (λ ms. FirstLightest ms c.first_lightest-leaf.result) c.marks-marks.ensures c.first_lightest-leaf.ensures
 
 -- the two words
 zeros_are : (c : After-fill) → c.fill.new.self ≡ bytes (zero_word (marks_of c.args.plan.now))
@@ -25,33 +25,33 @@ zeros_are c =
     let size : length (take (k - 0) c.args.one.now) ≡ k = ap (λ n. length (take n c.args.one.now)) (sub-zero k) ∙ length-take-le k c.args.one.now (omega arith) in
     c.fill.ensures.after (λ y e. e) ∙ ap (λ n. replicate n 0) (size ∙ c.active-active.ensures) ∙ sym (map-replicate byte (trues (marks_of c.args.plan.now)) false)
 
-word_is : (c : After-put-leaf-word) → c.put-leaf-word.new.word ≡ bytes (leaf_word (marks_of c.args.plan.now) c.first-lightest-leaf.result)
-word_is c = c.put-leaf-word.ensures ∙ ap (λ ms. bytes (leaf_word ms c.first-lightest-leaf.result)) c.marks-marks.ensures
+word_is : (c : After-put_leaf_word) → c.put_leaf_word.new.word ≡ bytes (leaf_word (marks_of c.args.plan.now) c.first_lightest-leaf.result)
+word_is c = c.put_leaf_word.ensures ∙ ap (λ ms. bytes (leaf_word ms c.first_lightest-leaf.result)) c.marks-marks.ensures
 
 -- the codeword of the word that was written
-codeword_is : (c : After-put-leaf-word) → codeword (marks_of c.args.plan.now) (bits c.put-leaf-word.new.word) ≡ codeword (marks_of c.args.plan.now) (leaf_word (marks_of c.args.plan.now) c.first-lightest-leaf.result)
+codeword_is : (c : After-put_leaf_word) → codeword (marks_of c.args.plan.now) (bits c.put_leaf_word.new.word) ≡ codeword (marks_of c.args.plan.now) (leaf_word (marks_of c.args.plan.now) c.first_lightest-leaf.result)
 codeword_is c = ap (λ w. codeword (marks_of c.args.plan.now) w) (ap bits (word_is c) ∙ bits_bytes _)
 
-pub write-codeword-places-requires : goal.write-codeword-places-requires
-write-codeword-places-requires c =
-    let at = (goal.at.write-codeword-places-requires c).After-put-leaf-word in
+pub write_codeword_places-requires : goal.write_codeword_places-requires
+write_codeword_places-requires c =
+    let at = (goal.at.write_codeword_places-requires c).After-put_leaf_word in
     let ms = marks_of c.args.plan.now in
-    let leaf = c.first-lightest-leaf.result in
+    let leaf = c.first_lightest-leaf.result in
     let w = leaf_word ms leaf in
-    let many : trues (codeword ms (bits c.put-leaf-word.new.word)) ≡ c.weight-weight.result =
-    ap trues (codeword_is at) ∙ first_weighs ms leaf (light (goal.at.write-codeword-places-requires c).After-first-lightest-leaf) ∙ sym c.weight-weight.ensures.value in
+    let many : trues (codeword ms (bits c.put_leaf_word.new.word)) ≡ c.weight-weight.result =
+    ap trues (codeword_is at) ∙ first_weighs ms leaf (light (goal.at.write_codeword_places-requires c).After-first_lightest-leaf) ∙ sym c.weight-weight.ensures.value in
     record {
-      all-data = ap length (word_is at) ∙ length-map w byte ∙ length_leaf_word ms leaf;
+      all_data = ap length (word_is at) ∙ length-map w byte ∙ length_leaf_word ms leaf;
       all_bits = rw (word_is at) (all_bits_bytes w);
       room = omega (arith, many, c.if-places-weight.false);
     }
 
 pub returns : goal.returns
 returns c =
-    let at = (goal.at.returns c).After-put-leaf-word in
+    let at = (goal.at.returns c).After-put_leaf_word in
     let ms = marks_of c.args.plan.now in
-    let leaf = c.first-lightest-leaf.result in
-    let first = light (goal.at.returns c).After-first-lightest-leaf in
+    let leaf = c.first_lightest-leaf.result in
+    let first = light (goal.at.returns c).After-first_lightest-leaf in
     let k = c.active-active.result in
     let n = c.weight-weight.result in
     let active : k ≡ trues ms = c.active-active.ensures in
@@ -60,16 +60,16 @@ returns c =
     let found = codeword ms (leaf_word ms leaf) in
     let many : trues found ≡ n = first_weighs ms leaf first ∙ sym weight in
     let one = c.fill.new.self ++ post_of 0 (k - 0) c.args.one.now in
-    let other = c.put-leaf-word.new.word ++ post_of 0 (k - 0) c.args.other.now in
-    let written : WorstWritten ms c.args.one.now c.args.other.now old n one other c.write-codeword-places.new.places = record {
+    let other = c.put_leaf_word.new.word ++ post_of 0 (k - 0) c.args.other.now in
+    let written : WorstWritten ms c.args.one.now c.args.other.now old n one other c.write_codeword_places.new.places = record {
       leaf = leaf;
       is_first = first;
       answer = weight;
       one_is = row_is k (trues ms) c.fill.new.self c.args.one.now (zero_word ms) active (zeros_are (goal.at.returns c).After-fill);
-      other_is = row_is k (trues ms) c.put-leaf-word.new.word c.args.other.now (leaf_word ms leaf) active (word_is at);
-      places_is = c.write-codeword-places.ensures ∙ ap (λ w. places_of w ++ drop (trues w) old) (codeword_is at) ∙ ap (λ m. places_of found ++ drop m old) many;
+      other_is = row_is k (trues ms) c.put_leaf_word.new.word c.args.other.now (leaf_word ms leaf) active (word_is at);
+      places_is = c.write_codeword_places.ensures ∙ ap (λ w. places_of w ++ drop (trues w) old) (codeword_is at) ∙ ap (λ m. places_of found ++ drop m old) many;
     } in
     record {
       value = (nothing_due ms (length c.args.one.now) (length c.args.other.now) (length old) (omega arith) (omega arith) (omega arith), written);
-      tight = written_tight top_count ms c.args.one.now c.args.other.now old n one other c.write-codeword-places.new.places written;
+      tight = written_tight top_count ms c.args.one.now c.args.other.now old n one other c.write_codeword_places.new.places written;
     }

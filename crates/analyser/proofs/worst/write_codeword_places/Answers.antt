@@ -12,14 +12,14 @@ use Rattle.analyser.proofs.worst.write_codeword_places.Goals.{After-length}
 word_is : (c : After-length) → bits (take (c.length.result - 0) c.encode.new.out) ≡ codeword (marks_of c.args.plan.now) (bits c.args.«data».now)
 word_is c =
     let size = sized c.args.plan.now in
-    encoded_front (marks_of c.args.plan.now) c.args.«data».now (replicate 4096 0) c.encode.new.out c.encode.result c.length.result size.0 size.1 c.requires.all-data c.requires.all_bits c.length.ensures c.encode.ensures.value
+    encoded_front (marks_of c.args.plan.now) c.args.«data».now (replicate 4096 0) c.encode.new.out c.encode.result c.length.result size.0 size.1 c.requires.all_data c.requires.all_bits c.length.ensures c.encode.ensures.value
 
-pub write-places-requires : goal.write-places-requires
-write-places-requires c =
-    let at = (goal.at.write-places-requires c).After-length in
+pub write_places-requires : goal.write_places-requires
+write_places-requires c =
+    let at = (goal.at.write_places-requires c).After-length in
     rw (word_is at) c.requires.room
 
 pub returns : goal.returns
 returns c =
     let at = (goal.at.returns c).After-length in
-    c.write-places.ensures ∙ ap (λ w. places_of w ++ drop (trues w) c.args.places.now) (word_is at)
+    c.write_places.ensures ∙ ap (λ w. places_of w ++ drop (trues w) c.args.places.now) (word_is at)

@@ -22,11 +22,11 @@ room c =
 pub bounds-places-next : goal.bounds-places-next
 bounds-places-next c = omega (arith, room c, c.loop-i.auto.places)
 
-pub offset-bounds-places-next : goal.offset-bounds-places-next
-offset-bounds-places-next c = record { fits = omega (arith, room c, c.loop-i.auto.places) }
+pub offset_bounds-places-next : goal.offset_bounds-places-next
+offset_bounds-places-next c = record { fits = omega (arith, room c, c.loop-i.auto.places) }
 
-pub overflow-add-next : goal.overflow-add-next
-overflow-add-next c = record { fits = omega (arith, room c, c.loop-i.auto.places) }
+pub overflow_add-next : goal.overflow_add-next
+overflow_add-next c = record { fits = omega (arith, room c, c.loop-i.auto.places) }
 
 pub loop-i-preserved : goal.loop-i-preserved
 loop-i-preserved c =

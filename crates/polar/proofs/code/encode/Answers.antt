@@ -1,4 +1,4 @@
-use Rattle.std.proofs.Common.{◌≡◌, ◌++◌, length, drop, ap, ◌∙◌, arith, rules}
+use Rattle.std.proofs.Common.{◌≡◌, ◌++◌, length, drop, ap, ◌∙◌, rules}
 use lib.ListN.{length-map}
 use Rattle.polar.specs.Words.{trues}
 use Rattle.polar.specs.Bytes.{bit, bits, bytes}
@@ -14,11 +14,11 @@ returns c =
     let ms = marks_of plan in
     let ds = bits c.args.«data».now in
     let same = c.marks-marks.ensures in
-    let word : c.put-codeword.new.word ≡ codeword ms ds = c.put-codeword.ensures ∙ ap (λ m. codeword m ds) same in
+    let word : c.put_codeword.new.word ≡ codeword ms ds = c.put_codeword.ensures ∙ ap (λ m. codeword m ds) same in
     let count : length ds ≡ trues ms = length-map c.args.«data».now bit ∙ c.if-data-active.false ∙ c.active.ensures in
-    let out : c.write-bytes.new.out ≡ bytes (codeword ms ds) ++ drop (length c.put-codeword.new.word) c.args.out.now =
-    c.write-bytes.ensures ∙ ap (λ w. bytes w ++ drop (length c.put-codeword.new.word) c.args.out.now) word in
+    let out : c.write_bytes.new.out ≡ bytes (codeword ms ds) ++ drop (length c.put_codeword.new.word) c.args.out.now =
+    c.write_bytes.ensures ∙ ap (λ w. bytes w ++ drop (length c.put_codeword.new.word) c.args.out.now) word in
     record {
       value = search rules;
-      encodes = rw out (written_encodes ms ds (drop (length c.put-codeword.new.word) c.args.out.now) (length c.marks-marks.result.now) (sized plan).0 count (ap length same));
+      encodes = rw out (written_encodes ms ds (drop (length c.put_codeword.new.word) c.args.out.now) (length c.marks-marks.result.now) (sized plan).0 count (ap length same));
     }

@@ -17,11 +17,11 @@ returns c =
     let word = bits c.args.word.now in
     let rest = drop (trues c.marks-marks.result.now) c.args.out.now in
     let same = c.marks-marks.ensures in
-    let labels : c.put-leaf-labels-of.new.labels ≡ unlabel (balanced (length ms)) word =
-    c.put-leaf-labels-of.ensures ∙ ap (λ n. unlabel (balanced n) word) (c.if-word-marks.false ∙ ap length same) in
-    let found : collect c.marks-marks.result.now c.put-leaf-labels-of.new.labels ≡ data_of ms word =
-    ap (λ m. collect m c.put-leaf-labels-of.new.labels) same ∙ ap (collect ms) labels in
-    let out : c.write-active.new.out ≡ bytes (data_of ms word) ++ rest = c.write-active.ensures ∙ ap (λ w. bytes w ++ rest) found in
+    let labels : c.put_leaf_labels_of.new.labels ≡ unlabel (balanced (length ms)) word =
+    c.put_leaf_labels_of.ensures ∙ ap (λ n. unlabel (balanced n) word) (c.if-word-marks.false ∙ ap length same) in
+    let found : collect c.marks-marks.result.now c.put_leaf_labels_of.new.labels ≡ data_of ms word =
+    ap (λ m. collect m c.put_leaf_labels_of.new.labels) same ∙ ap (collect ms) labels in
+    let out : c.write_active.new.out ≡ bytes (data_of ms word) ++ rest = c.write_active.ensures ∙ ap (λ w. bytes w ++ rest) found in
     record {
       value = search rules;
       returns = λ ds count code. rw out (taken_out ms word ds rest c.active-active.result (sized plan).0 c.active-active.ensures count code);

@@ -14,8 +14,8 @@ bounds-out-next c =
     let i = c.loop-i.i in
     omega (arith, c.loop-i.invariant.0, trues_take_more marks i true c.loop-i-test.true c.if-mark.true, trues_take_bound marks (i + 1))
 
-pub overflow-add-next : goal.overflow-add-next
-overflow-add-next c =
+pub overflow_add-next : goal.overflow_add-next
+overflow_add-next c =
     let marks = c.args.marks.now in
     let i = c.loop-i.i in
     record { fits = omega (arith, c.loop-i.invariant.0, trues_take_more marks i true c.loop-i-test.true c.if-mark.true, trues_take_bound marks (i + 1)) }

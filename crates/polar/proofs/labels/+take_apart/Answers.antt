@@ -4,5 +4,5 @@ use Rattle.polar.proofs.labels.+take_apart.Goals as goal
 
 pub returns : goal.returns
 returns t c =
-    taken_apart c.args.bits.now c.add-right.new.bits c.take-apart.new.bits c.take-apart-2.new.bits c.children-left.result.0 (omega arith) (omega arith)
-    c.add-right.ensures c.take-apart.ensures c.take-apart-2.ensures
+    taken_apart c.args.bits.now c.add_right.new.bits c.take_apart.new.bits c.take_apart-2.new.bits c.children-left.result.0 (omega arith) (omega arith)
+    c.add_right.ensures c.take_apart.ensures c.take_apart-2.ensures

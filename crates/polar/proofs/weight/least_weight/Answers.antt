@@ -1,11 +1,9 @@
-use Rattle.std.proofs.Common.{◌≡◌, ◌+◌, ◌≤◌, Bool, List, ◌∷◌, length, sym, ap, ◌∙◌, subst, arith}
+use Rattle.std.proofs.Common.{◌≡◌, ◌≤◌, Bool, List, ◌∷◌, length, sym, ap, ◌∙◌, subst}
 use Rattle.std.specs.List.{AllByRecursion as All}
 use Rattle.polar.specs.Shape.{balanced}
-use Rattle.polar.specs.Marks.{lesser}
 use Rattle.polar.specs.Walks.{current, remaining, Begun}
 use Rattle.polar.specs.Lightest.{node_weight, lightest, Within}
 use Rattle.polar.specs.declared.walk.Walk.{Walk}
-use Rattle.polar.proofs.Shapes.{leaves_balanced}
 use Rattle.polar.proofs.Weighing.{lesser_assoc, lesser_none, lightest_weight, nodes_within}
 use Rattle.polar.proofs.weight.least_weight.Goals as goal
 
@@ -16,20 +14,20 @@ all_within marks walk some short is =
     let n = length marks in
     subst (All (Within n)) (sym is) (nodes_within n some short)
 
-pub leaf-weight-least-requires : goal.leaf-weight-least-requires
-leaf-weight-least-requires c =
-    let all = all_within c.args.marks.now c.at-root-walk.result c.requires.some c.requires.short c.at-root-walk.ensures in
+pub leaf_weight-least-requires : goal.leaf_weight-least-requires
+leaf_weight-least-requires c =
+    let all = all_within c.args.marks.now c.at_root-walk.result c.requires.some c.requires.short c.at_root-walk.ensures in
     rw c.node.ensures.value all.0
 
 pub loop-node-init : goal.loop-node-init
 loop-node-init c =
     let marks = c.args.marks.now in
-    let walk = c.at-root-walk.result in
-    let root : c.leaf-weight-least.result ≡ node_weight marks (current walk) = c.leaf-weight-least.ensures ∙ ap (node_weight marks) c.node.ensures.value in
-    (rw root (ap (lightest marks) c.at-root-walk.ensures), (all_within marks walk c.requires.some c.requires.short c.at-root-walk.ensures).1)
+    let walk = c.at_root-walk.result in
+    let root : c.leaf_weight-least.result ≡ node_weight marks (current walk) = c.leaf_weight-least.ensures ∙ ap (node_weight marks) c.node.ensures.value in
+    (rw root (ap (lightest marks) c.at_root-walk.ensures), (all_within marks walk c.requires.some c.requires.short c.at_root-walk.ensures).1)
 
-pub leaf-weight-requires : goal.leaf-weight-requires
-leaf-weight-requires c =
+pub leaf_weight-requires : goal.leaf_weight-requires
+leaf_weight-requires c =
     let moved = c.in-Some.ensures.moved in
     (subst (All (Within (length c.args.marks.now))) moved.0 c.loop-node.invariant.1).0
 
@@ -45,5 +43,5 @@ loop-node-preserved c =
 pub returns : goal.returns
 returns c =
     let marks = c.args.marks.now in
-    let none = c.in-default.ensures.moved.0 in
+    let none = c.in_default.ensures.moved.0 in
     sym (lesser_none c.loop-node.least) ∙ (rw none at c.loop-node.invariant.0) ∙ lightest_weight marks (balanced (length marks)) 0

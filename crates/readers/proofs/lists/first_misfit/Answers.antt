@@ -6,8 +6,8 @@ use Rattle.polar.proofs.FirstPlaces.{from_zero}
 use Rattle.readers.proofs.Listing.{some_none, misfit_here, misfit_later}
 use Rattle.readers.proofs.lists.first_misfit.Goals as goal
 
-pub returns-then-all-fit : goal.returns-then-all-fit
-returns-then-all-fit g c = sym (some_none (first_unfit g.K.Soft.kind c.args.values.now) (sym c.if-all-fit.ensures))
+pub returns-then-all_fit : goal.returns-then-all_fit
+returns-then-all_fit g c = sym (some_none (first_unfit g.K.Soft.kind c.args.values.now) (sym c.if-all_fit.ensures))
 
 pub loop-i-init : goal.loop-i-init
 loop-i-init g c = from_zero (first_unfit g.K.Soft.kind c.args.values.now)

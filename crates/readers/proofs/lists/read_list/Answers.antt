@@ -8,9 +8,9 @@ read-requires g c =
     let kind = g.K.Soft.kind in
     let ms = marks_of c.args.plan.now in
     let same = c.marks-marks.ensures in
-    let facts = pile_facts kind (g.R.Reader.reading c.args.reader.now) ms (length c.args.soft.now) (length c.args.bits.now) c.in-default-check-pile.ensures.0 in
-    let posed = posed_list kind c.args.plan.now c.args.values.now _ same c.if-values-marks.false (sym c.in-default.ensures) in
-    let cut = c.split-at-mut-word.ensures in
+    let facts = pile_facts kind (g.R.Reader.reading c.args.reader.now) ms (length c.args.soft.now) (length c.args.bits.now) c.in_default-check_pile.ensures.0 in
+    let posed = posed_list kind c.args.plan.now c.args.values.now _ same c.if-values-marks.false (sym c.in_default.ensures) in
+    let cut = c.split_at_mut-word.ensures in
     let long = ap length same in
     rw same record {
       taken = facts.0;
@@ -28,10 +28,10 @@ returns g c =
     let reading = g.R.Reader.reading c.args.reader.now in
     let ms = marks_of c.args.plan.now in
     let same = c.marks-marks.ensures in
-    let facts = pile_facts kind reading ms (length c.args.soft.now) (length c.args.bits.now) c.in-default-check-pile.ensures.0 in
-    let posed = posed_list kind c.args.plan.now c.args.values.now _ same c.if-values-marks.false (sym c.in-default.ensures) in
+    let facts = pile_facts kind reading ms (length c.args.soft.now) (length c.args.bits.now) c.in_default-check_pile.ensures.0 in
+    let posed = posed_list kind c.args.plan.now c.args.values.now _ same c.if-values-marks.false (sym c.in_default.ensures) in
     record {
       value = search rules;
       free = search rules;
-      near = near_taken_out kind reading (g.met.R.Reader.rules c.args.reader.now) ms c.args.values.now c.read.new.out c.args.out.now c.take-out.result c.take-out.new.word c.take-out.new.out facts.0 posed (c.read.ensures ∙ ap (λ m. reading.answer m 0 c.args.values.now) same) c.take-out.ensures;
+      near = near_taken_out kind reading (g.met.R.Reader.rules c.args.reader.now) ms c.args.values.now c.read.new.out c.args.out.now c.take_out.result c.take_out.new.word c.take_out.new.out facts.0 posed (c.read.ensures ∙ ap (λ m. reading.answer m 0 c.args.values.now) same) c.take_out.ensures;
     }

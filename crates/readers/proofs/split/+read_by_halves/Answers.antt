@@ -16,68 +16,68 @@ returns-then-takes g t c =
     let below = g.R.Reader.reading c.args.below.now in
     c.read.ensures ∙ sym (split_taken g.K.Soft.kind below _ _ _ _ (sym c.takes.ensures ∙ c.if-takes.true))
 
-pub split-at-mut-work-requires : goal.split-at-mut-work-requires
-split-at-mut-work-requires g t c =
+pub split_at_mut-work-requires : goal.split_at_mut-work-requires
+split_at_mut-work-requires g t c =
     let two = split_node g c.args.below.now c.requires.posed c.takes.ensures c.if-takes.false in
     let half = c.children-half.ensures.left two in
     omega (arith, c.requires.soft_room, own_least (length c.args.marks.now) two)
 
-pub compare-halves-requires : goal.compare-halves-requires
-compare-halves-requires g t c =
+pub compare_halves-requires : goal.compare_halves-requires
+compare_halves-requires g t c =
     let posed = c.requires.posed in
     let two = split_node g c.args.below.now posed c.takes.ensures c.if-takes.false in
     let half = c.children-half.ensures.left two in
     record {
       few = turns_most _ _ posed.some posed.short;
       halved = (omega (arith, posed.same), omega (arith, posed.same));
-      room = c.split-at-mut-work.ensures.front-len;
+      room = c.split_at_mut-work.ensures.front-len;
       fits = posed.fits;
     }
 
-pub read-by-halves-requires : goal.read-by-halves-requires
-read-by-halves-requires g t c κs within =
+pub read_by_halves-requires : goal.read_by_halves-requires
+read_by_halves-requires g t c κs within =
     let two = split_node g c.args.below.now c.requires.posed c.takes.ensures c.if-takes.false in
     let half = c.children-half.ensures.left two in
-    let size = c.split-at.ensures.front-len in
+    let size = c.split_at.ensures.front-len in
     let room = length_front c.children-half.result.0 c.args.out.now (omega (arith, c.requires.out_room)) in
-    let ready = left_ready g.K.Soft.kind g.met.K.Soft.rules _ (g.met.R.Reader.rules c.args.below.now) _ _ _ _ _ _ c.requires two _ half _ c.split-at-mut-work.ensures.back_len _ _ _ c.split-at.ensures.front c.compare-halves.ensures room in
+    let ready = left_ready g.K.Soft.kind g.met.K.Soft.rules _ (g.met.R.Reader.rules c.args.below.now) _ _ _ _ _ _ c.requires two _ half _ c.split_at_mut-work.ensures.back_len _ _ _ c.split_at.ensures.front c.compare_halves.ensures room in
     (omega (arith, c.decreases), (within.0, (within.1, ready)))
 
-pub join-halves-requires : goal.join-halves-requires
-join-halves-requires g t c =
+pub join_halves-requires : goal.join_halves-requires
+join_halves-requires g t c =
     let posed = c.requires.posed in
     let two = split_node g c.args.below.now posed c.takes.ensures c.if-takes.false in
     let half = c.children-half.ensures.left two in
     let other = c.children-half.ensures.right in
-    let wide = c.read-by-halves.auto.out ∙ length_front c.children-half.result.0 c.args.out.now (omega (arith, c.requires.out_room)) in
-    let work : c.children-half.result.1 ≤ length c.compare-halves.new.out = omega (arith, c.compare-halves.auto.out, c.split-at-mut-work.ensures.front-len) in
+    let wide = c.read_by_halves.auto.out ∙ length_front c.children-half.result.0 c.args.out.now (omega (arith, c.requires.out_room)) in
+    let work : c.children-half.result.1 ≤ length c.compare_halves.new.out = omega (arith, c.compare_halves.auto.out, c.split_at_mut-work.ensures.front-len) in
     record {
       few = few_turns _ _ two posed.short;
       halved = (omega (arith, posed.same), omega (arith, posed.same));
       left = ap length (take_front _ _ _ wide) ∙ wide;
-      room = omega (arith, length_front c.children-half.result.1 c.compare-halves.new.out work, posed.same);
+      room = omega (arith, length_front c.children-half.result.1 c.compare_halves.new.out work, posed.same);
       fits = posed.fits;
     }
 
-pub overflow-add-turns : goal.overflow-add-turns
-overflow-add-turns g t c =
+pub overflow_add-turns : goal.overflow_add-turns
+overflow_add-turns g t c =
     let few = turns_most _ _ c.requires.posed.some c.requires.posed.short in
     omega arith
 
-pub read-by-halves-requires-2 : goal.read-by-halves-requires-2
-read-by-halves-requires-2 g t c κs within =
+pub read_by_halves-requires-2 : goal.read_by_halves-requires-2
+read_by_halves-requires-2 g t c κs within =
     let two = split_node g c.args.below.now c.requires.posed c.takes.ensures c.if-takes.false in
     let half = c.children-half.ensures.left two in
-    let size = c.split-at.ensures.back_len in
-    let wide = c.read-by-halves.auto.out ∙ length_front c.children-half.result.0 c.args.out.now (omega (arith, c.requires.out_room)) in
-    let left = ap length (take_front _ c.read-by-halves.new.out _ wide) ∙ wide in
-    let cut = ap (λ n. n + c.children-half.result.0) c.read-by-halves.auto.soft ∙ c.split-at-mut-work.ensures.back_len in (
+    let size = c.split_at.ensures.back_len in
+    let wide = c.read_by_halves.auto.out ∙ length_front c.children-half.result.0 c.args.out.now (omega (arith, c.requires.out_room)) in
+    let left = ap length (take_front _ c.read_by_halves.new.out _ wide) ∙ wide in
+    let cut = ap (λ n. n + c.children-half.result.0) c.read_by_halves.auto.soft ∙ c.split_at_mut-work.ensures.back_len in (
       omega (arith, c.decreases),
       (
         within.0,
         (
           within.1,
-          right_ready g.K.Soft.kind g.met.K.Soft.rules _ (g.met.R.Reader.rules c.args.below.now) _ _ _ _ _ _ c.requires two _ half _ cut _ _ _ _ _ c.split-at.ensures.back left c.join-halves.ensures c.read-by-halves.auto.bits (written_tail _ c.read-by-halves.new.out c.args.out.now wide (omega (arith, c.requires.out_room)) ∙ c.requires.out_room),
+          right_ready g.K.Soft.kind g.met.K.Soft.rules _ (g.met.R.Reader.rules c.args.below.now) _ _ _ _ _ _ c.requires two _ half _ cut _ _ _ _ _ c.split_at.ensures.back left c.join_halves.ensures c.read_by_halves.auto.bits (written_tail _ c.read_by_halves.new.out c.args.out.now wide (omega (arith, c.requires.out_room)) ∙ c.requires.out_room),
         ),
       ),
     )
@@ -90,12 +90,12 @@ returns g t c =
     let half = c.children-half.ensures.left two in
     let n = c.children-half.result.0 in
     let fits : n ≤ length c.args.out.now = omega (arith, c.requires.out_room) in
-    let left = c.read-by-halves.new.out in
-    let right = c.read-by-halves-2.new.out in
-    let wide = c.read-by-halves.auto.out ∙ length_front n c.args.out.now fits in
-    let size : length c.split-at.result.1.now ≡ length c.args.marks.now / 2 = omega (arith, c.split-at.ensures.back_len) in
+    let left = c.read_by_halves.new.out in
+    let right = c.read_by_halves-2.new.out in
+    let wide = c.read_by_halves.auto.out ∙ length_front n c.args.out.now fits in
+    let size : length c.split_at.result.1.now ≡ length c.args.marks.now / 2 = omega (arith, c.split_at.ensures.back_len) in
     let under = ap (right_values kind n c.args.values.now) (take_front n left _ wide) in
-    let isl = c.read-by-halves.ensures ∙ same_answer kind below _ _ _ _ _ n c.split-at.ensures.front c.compare-halves.ensures c.split-at.ensures.front-len in
-    let isr = c.read-by-halves-2.ensures ∙ same_answer kind below _ _ _ _ _ _ c.split-at.ensures.back (c.join-halves.ensures ∙ under) size in
-    let short : length right ≤ n = omega (arith, c.read-by-halves-2.auto.out, written_tail n left c.args.out.now wide fits, c.requires.out_room) in
-    joined_rows n left right c.args.out.now _ wide short fits c.add-right.ensures ∙ split_untaken kind below _ _ _ n left right (sym c.takes.ensures ∙ c.if-takes.false) two half isl isr
+    let isl = c.read_by_halves.ensures ∙ same_answer kind below _ _ _ _ _ n c.split_at.ensures.front c.compare_halves.ensures c.split_at.ensures.front-len in
+    let isr = c.read_by_halves-2.ensures ∙ same_answer kind below _ _ _ _ _ _ c.split_at.ensures.back (c.join_halves.ensures ∙ under) size in
+    let short : length right ≤ n = omega (arith, c.read_by_halves-2.auto.out, written_tail n left c.args.out.now wide fits, c.requires.out_room) in
+    joined_rows n left right c.args.out.now _ wide short fits c.add_right.ensures ∙ split_untaken kind below _ _ _ n left right (sym c.takes.ensures ∙ c.if-takes.false) two half isl isr

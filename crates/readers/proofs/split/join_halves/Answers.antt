@@ -2,9 +2,9 @@ use Rattle.std.proofs.Common.{arith}
 use Rattle.std.proofs.ByRecursion.{All-take, All-drop}
 use Rattle.readers.proofs.split.join_halves.Goals as goal
 
-pub join-into-requires : goal.join-into-requires
-join-into-requires g c =
-    let halves = c.split-at.ensures in
+pub join_into-requires : goal.join_into-requires
+join_into-requires g c =
+    let halves = c.split_at.ensures in
     record {
       few = c.requires.few;
       room = omega (arith, c.requires.room, halves.back_len);

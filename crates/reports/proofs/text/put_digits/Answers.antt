@@ -7,10 +7,10 @@ use Rattle.reports.proofs.text.put_digits.Goals as goal
 pub loop-b-preserved : goal.loop-b-preserved
 loop-b-preserved c =
     let so_far = digits (bits (take c.loop-b.b-index c.args.word.now)) in
-    let next = digits_next c.args.word.now c.loop-b.b-index c.loop-b-test.true ∙ ap (λ d. so_far ++ (d ∷ [])) (sym c.digit-of.ensures) in
-    let one = put_one c.loop-b.text c.loop-b.text c.push-reserved.new.self c.digit-of.result refl c.push-reserved.ensures.items c.push-reserved.ensures.capacity in (
-      put_last c.args.text.now c.loop-b.text c.push-reserved.new.self so_far (c.digit-of.result ∷ []) _ c.loop-b.invariant.0 one next,
-      omega (arith, c.loop-b.invariant.1, c.push-reserved.ensures.len, c.push-reserved.ensures.capacity),
+    let next = digits_next c.args.word.now c.loop-b.b-index c.loop-b-test.true ∙ ap (λ d. so_far ++ (d ∷ [])) (sym c.digit_of.ensures) in
+    let one = put_one c.loop-b.text c.loop-b.text c.push_reserved.new.self c.digit_of.result refl c.push_reserved.ensures.items c.push_reserved.ensures.capacity in (
+      put_last c.args.text.now c.loop-b.text c.push_reserved.new.self so_far (c.digit_of.result ∷ []) _ c.loop-b.invariant.0 one next,
+      omega (arith, c.loop-b.invariant.1, c.push_reserved.ensures.len, c.push_reserved.ensures.capacity),
     )
 
 pub returns : goal.returns

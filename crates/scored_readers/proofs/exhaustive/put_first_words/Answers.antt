@@ -11,6 +11,6 @@ returns c =
     let rows = c.args.rows.now in
     let long = length_front (length marks) rows (omega (arith, c.requires)) in
     let first = c.fill.ensures.after (λ y same. same) ∙ ap zeros long ∙ sym (zero_word marks c.requires.0) in
-    let both = both_done rows c.fill.new.self c.put-word.new.word (length marks) (omega (arith, c.requires)) (c.fill.ensures.len ∙ long) in
-    let second = c.put-word.ensures in
+    let both = both_done rows c.fill.new.self c.put_word.new.word (length marks) (omega (arith, c.requires)) (c.fill.ensures.len ∙ long) in
+    let second = c.put_word.ensures in
     cc

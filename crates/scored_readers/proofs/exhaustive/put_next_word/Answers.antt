@@ -6,8 +6,8 @@ use Rattle.scored_readers.specs.ExhaustiveReading.{data_word}
 use Rattle.scored_readers.specs.Numbers.{length_data_word, length_rows, odd_word}
 use Rattle.scored_readers.proofs.exhaustive.put_next_word.Goals as goal
 
-pub slice-bounds-put-word-end : goal.slice-bounds-put-word-end
-slice-bounds-put-word-end c = omega (arith, length_rows c.args.marks.now c.args.rows.now c.args.number 1 c.requires.last)
+pub slice_bounds-put_word-end : goal.slice_bounds-put_word-end
+slice_bounds-put_word-end c = omega (arith, length_rows c.args.marks.now c.args.rows.now c.args.number 1 c.requires.last)
 
 pub returns-then-number-eq0 : goal.returns-then-number-eq0
 returns-then-number-eq0 c =
@@ -16,7 +16,7 @@ returns-then-number-eq0 c =
     let w = data_word marks c.args.number in
     let r = data_word marks 1 in
     let long = length_data_word marks c.args.number in
-    c.add-right.ensures ∙ ap (λ z. plus z (drop n z)) c.requires.last ∙ ap (plus (w ++ r)) (drop_at w r n long)
+    c.add_right.ensures ∙ ap (λ z. plus z (drop n z)) c.requires.last ∙ ap (plus (w ++ r)) (drop_at w r n long)
     ∙ merge_past xor w r r (omega (arith, length_data_word marks 1)) ∙ ap (λ z. z ++ r) (sym (odd_word marks c.requires.some c.args.number c.if-number-eq0.true))
 
 pub returns-else-number-eq0 : goal.returns-else-number-eq0
@@ -25,7 +25,7 @@ returns-else-number-eq0 c =
     let n = length marks in
     let rows = c.args.rows.now in
     let r = data_word marks 1 in
-    let long = ap length c.put-word.ensures ∙ length_data_word marks (c.args.number + 1) in
+    let long = ap length c.put_word.ensures ∙ length_data_word marks (c.args.number + 1) in
     let within : n ≤ length rows = omega (arith, length_rows marks rows c.args.number 1 c.requires.last) in
-    left_done rows c.put-word.new.word r n within long ∙ ap (λ z. z ++ drop n rows) c.put-word.ensures
+    left_done rows c.put_word.new.word r n within long ∙ ap (λ z. z ++ drop n rows) c.put_word.ensures
     ∙ ap (λ z. data_word marks (c.args.number + 1) ++ z) (ap (drop n) c.requires.last ∙ drop_at (data_word marks c.args.number) r n (length_data_word marks c.args.number))

@@ -15,15 +15,15 @@ score-sum-requires g c =
     let fits = λ (v : g.row.K.Denot). T (g.K.Soft.kind.fitting v c.args.turns) in
     (turns_most _ _ c.requires.some c.requires.short, all_read fits c.args.values.now c.loop-i.i _ c.loop-i-test.true c.index-values-i.is c.requires.fits)
 
-pub overflow-add-sum : goal.overflow-add-sum
-overflow-add-sum g c =
+pub overflow_add-sum : goal.overflow_add-sum
+overflow_add-sum g c =
     let kind = g.K.Soft.kind in
     let room = score_room kind.unit (length c.args.word.now) c.args.turns (c.loop-i.i + 1) g.met.K.Soft.rules.unit_most c.requires.short (omega (arith, c.requires.same)) in
     omega (arith, ints, limit_more c.loop-i.i (limit kind c.args.turns), c.score-sum.ensures.fair.within, c.score-sum.ensures.value, c.loop-i.invariant.1)
 
 pub loop-i-preserved : goal.loop-i-preserved
 loop-i-preserved g c =
-    let fits = overflow-add-sum g c in
+    let fits = overflow_add-sum g c in
     let value = c.score-sum.ensures.value in
     let step = score_more g.K.Scored.scoring c.args.turns c.args.values.now c.args.word.now c.loop-i.i _ c.loop-i-test.true (omega (arith, c.requires.same)) c.index-values-i.is in (
       omega (arith, ints, c.loop-i.invariant.0),

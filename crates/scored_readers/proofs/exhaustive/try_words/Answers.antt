@@ -15,13 +15,13 @@ in_front marks rows n is = ap (take (length marks - 0)) is ∙ take_front (lengt
 pub loop-number-init : goal.loop-number-init
 loop-number-init g c =
     let marks = c.args.marks.now in
-    let result = c.score-word-top.result in
-    let back : to_z w32 (of_z w32 result) ≡ result = to_z-of_z w32 result (record { sfits = c.score-word-top.type-inv }) in
-    let first = c.copy-from-slice.ensures.after ∙ in_front marks _ 0 c.put-first-words.ensures in
-    (c.put-first-words.ensures, (first, back ∙ c.score-word-top.ensures ∙ ap (word_score g.K.Scored.scoring c.args.turns c.args.values.now) first))
+    let result = c.score_word-top.result in
+    let back : to_z w32 (of_z w32 result) ≡ result = to_z-of_z w32 result (record { sfits = c.score_word-top.type_inv }) in
+    let first = c.copy_from_slice.ensures.after ∙ in_front marks _ 0 c.put_first_words.ensures in
+    (c.put_first_words.ensures, (first, back ∙ c.score_word-top.ensures ∙ ap (word_score g.K.Scored.scoring c.args.turns c.args.values.now) first))
 
-pub slice-bounds-word-end : goal.slice-bounds-word-end
-slice-bounds-word-end g c = omega (arith, length_rows c.args.marks.now c.put-next-word.new.rows (c.loop-number.number + 1) 1 c.put-next-word.ensures)
+pub slice_bounds-word-end : goal.slice_bounds-word-end
+slice_bounds-word-end g c = omega (arith, length_rows c.args.marks.now c.put_next_word.new.rows (c.loop-number.number + 1) 1 c.put_next_word.ensures)
 
 pub loop-number-preserved : goal.loop-number-preserved
 loop-number-preserved g c =
@@ -30,15 +30,15 @@ loop-number-preserved g c =
     let score = λ (w : List Bool). word_score g.K.Scored.scoring c.args.turns c.args.values.now w in
     let n = c.loop-number.number in
     let inv = c.loop-number.invariant in
-    let made = c.put-next-word.ensures in
+    let made = c.put_next_word.ensures in
     let next = in_front marks _ (n + 1) made in
-    let result = c.score-word-score.result in
-    let back : to_z w32 (of_z w32 result) ≡ result = to_z-of_z w32 result (record { sfits = c.score-word-score.type-inv }) in
-    let scored = back ∙ c.score-word-score.ensures in (
+    let result = c.score_word-score.result in
+    let back : to_z w32 (of_z w32 result) ≡ result = to_z-of_z w32 result (record { sfits = c.score_word-score.type_inv }) in
+    let scored = back ∙ c.score_word-score.ensures in (
       made,
       elim c.if-top-score.branch [
         | then-top-score w ↦
-            let copied = w.out-is ∙ w.copy-from-slice-then-top-score.ensures.after in
+            let copied = w.out-is ∙ w.copy_from_slice-then-top-score.ensures.after in
             better word score n _ _ _ next scored inv.1.1 (grind (arith, ints, w.if-top-score.true)) _ _ copied w.top_is
         | else-top-score w ↦ no_better word score n _ _ _ next scored inv.1.1 w.if-top-score.false _ _ _ inv.1.0 w.out-is w.top_is
       ],
@@ -51,7 +51,7 @@ pub returns : goal.returns
 returns g c =
     let marks = c.args.marks.now in
     let f = λ (n : ℕ). word_score g.K.Scored.scoring c.args.turns c.args.values.now (data_word marks n) in
-    let count = c.count-ones.ensures in
-    let few : 2 ^ c.count-ones.result ≤ 256 = pow_mono {j = 8} (omega (arith, c.requires.few)) in
-    let last : c.loop-number.number ≡ 2 ^ c.count-ones.result - 1 = omega (arith, c.loop-number.auto.number-end, c.loop-number-test.false) in
+    let count = c.count_ones.ensures in
+    let few : 2 ^ c.count_ones.result ≤ 256 = pow_mono {j = 8} (omega (arith, c.requires.few)) in
+    let last : c.loop-number.number ≡ 2 ^ c.count_ones.result - 1 = omega (arith, c.loop-number.auto.number-end, c.loop-number-test.false) in
     c.loop-number.invariant.1.0 ∙ ap (λ n. data_word marks (best f n)) (last ∙ ap (λ k. 2 ^ k - 1) count)

@@ -11,10 +11,10 @@ loop-v-preserved c =
     let i = c.loop-v.v-index in
     let all = c.loop-v.all in
     let fits : SFits w16 (get_or counts i (pos 0)) = search rules in
-    let size = c.unsigned-abs.ensures.value ∙ ap nat_abs (to_z-of_z w16 _ fits) in
+    let size = c.unsigned_abs.ensures.value ∙ ap nat_abs (to_z-of_z w16 _ fits) in
     let step = at_drop_more (all_small top_count) counts i (pos 0) c.loop-v-test.true in
     let rest = all_small top_count (drop (i + 1) counts) in
-    and_assoc all (leb c.unsigned-abs.result top_count) rest ∙ ap (λ n. all && (leb n top_count && rest)) size ∙ ap (λ z. all && z) (sym step) ∙ c.loop-v.invariant
+    and_assoc all (leb c.unsigned_abs.result top_count) rest ∙ ap (λ n. all && (leb n top_count && rest)) size ∙ ap (λ z. all && z) (sym step) ∙ c.loop-v.invariant
 
 pub returns : goal.returns
 returns c =

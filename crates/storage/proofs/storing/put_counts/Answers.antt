@@ -23,8 +23,8 @@ turn c =
     let fits : SFits w16 (get_or c.args.counts.now c.loop-v.v-index (pos 0)) = search rules in
     next_count _ _ _ c.loop-v-test.true (to_z-of_z w16 _ fits) ∙ ap (λ n. number n ++ flat_map number (map code (drop (c.loop-v.v-index + 1) c.args.counts.now))) (sym c.coded.ensures)
 
-pub put-number-at-requires : goal.put-number-at-requires
-put-number-at-requires c =
+pub put_number-at-requires : goal.put_number-at-requires
+put_number-at-requires c =
     let fits : SFits w16 (get_or c.args.counts.now c.loop-v.v-index (pos 0)) = search rules in
     let small = code_small top_count (to_z w16 (of_z w16 (get_or c.args.counts.now c.loop-v.v-index (pos 0)))) (small_count _ _ _ c.loop-v-test.true (to_z-of_z w16 _ fits) top_count c.loop-v.invariant.0).0 in (
       omega (arith, small, c.coded.ensures),
@@ -35,7 +35,7 @@ pub loop-v-preserved : goal.loop-v-preserved
 loop-v-preserved c =
     let fits : SFits w16 (get_or c.args.counts.now c.loop-v.v-index (pos 0)) = search rules in (
       (small_count _ _ _ c.loop-v-test.true (to_z-of_z w16 _ fits) top_count c.loop-v.invariant.0).1,
-      writing_more _ _ _ _ c.loop-v.invariant.1 (turn (goal.at.loop-v-preserved c).After-coded) c.requires.1 c.put-number-at.ensures.written c.put-number-at.ensures.place,
+      writing_more _ _ _ _ c.loop-v.invariant.1 (turn (goal.at.loop-v-preserved c).After-coded) c.requires.1 c.put_number-at.ensures.written c.put_number-at.ensures.place,
     )
 
 pub returns : goal.returns

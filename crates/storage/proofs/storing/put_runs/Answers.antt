@@ -8,8 +8,8 @@ use Rattle.storage.proofs.storing.put_runs.Goals.{then-m-mark, else-m-mark}
 pub loop-m-init : goal.loop-m-init
 loop-m-init c = (omega arith, writing_none _ _ _)
 
-pub put-number-at-requires : goal.put-number-at-requires
-put-number-at-requires c =
+pub put_number-at-requires : goal.put_number-at-requires
+put_number-at-requires c =
     let turn = run_turns c.args.marks.now c.loop-m.m-index c.loop-m.mark c.loop-m.run c.loop-m-test.true _ _ c.if-m-mark.false refl refl in
     (omega arith, omega (arith, c.loop-m.auto.out, writing_room (number c.loop-m.run) _ c.loop-m.invariant.1 turn c.requires.1))
 
@@ -21,16 +21,16 @@ loop-m-preserved c =
           (omega (arith, w.run-is), writing_same _ _ _ c.loop-m.invariant.1 turn w.out-is w.at-is)
       | else-m-mark w ↦
           let turn = run_turns c.args.marks.now c.loop-m.m-index c.loop-m.mark c.loop-m.run c.loop-m-test.true c.if-m-mark.mark c.if-m-mark.run w.if-m-mark.false w.mark-is w.run-is in
-          (omega (arith, w.run-is), writing_more _ _ _ _ c.loop-m.invariant.1 turn c.requires.1 (w.out-is ∙ w.put-number-at.ensures.written) (w.at-is ∙ w.put-number-at.ensures.place))
+          (omega (arith, w.run-is), writing_more _ _ _ _ c.loop-m.invariant.1 turn c.requires.1 (w.out-is ∙ w.put_number-at.ensures.written) (w.at-is ∙ w.put_number-at.ensures.place))
     ]
 
-pub put-number-requires : goal.put-number-requires
-put-number-requires c =
+pub put_number-requires : goal.put_number-requires
+put_number-requires c =
     let end = last_run c.args.marks.now c.loop-m.m-index c.loop-m.mark c.loop-m.run c.loop-m-test.false in
     (omega arith, omega (arith, c.loop-m.auto.out, writing_room (number c.loop-m.run) _ c.loop-m.invariant.1 end c.requires.1))
 
 pub returns : goal.returns
 returns c =
     let end = last_run c.args.marks.now c.loop-m.m-index c.loop-m.mark c.loop-m.run c.loop-m-test.false in
-    let all = writing_all (writing_more _ _ _ _ c.loop-m.invariant.1 end c.requires.1 c.put-number.ensures.written c.put-number.ensures.place) refl in
+    let all = writing_all (writing_more _ _ _ _ c.loop-m.invariant.1 end c.requires.1 c.put_number.ensures.written c.put_number.ensures.place) refl in
     record { place = all.0; written = all.1 }

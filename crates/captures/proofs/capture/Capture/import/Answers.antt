@@ -12,20 +12,20 @@ use Rattle.captures.proofs.capture.Capture.import.Goals.{After-import}
 
 -- the counts that are written
 counts_are : (c : After-import) → vec_items (with_items c.args.self.now.counts c.import.new.counts) ≡ c.import.new.counts
-counts_are c = take_at c.import.new.counts _ c.args.self.now.counts.len (c.import.auto.counts ∙ c.as-mut-slice.ensures.len)
+counts_are c = take_at c.import.new.counts _ c.args.self.now.counts.len (c.import.auto.counts ∙ c.as_mut_slice.ensures.len)
 
 row_is : (c : After-import) → RowImported top_count c.args.self.now.exponent c.args.levels.now (vec_items c.args.self.now.counts) c.import.new.counts c.import.result
 row_is c =
     let counts = vec_items c.args.self.now.counts in
     subst (λ k. RowImported top_count k c.args.levels.now counts c.import.new.counts c.import.result) c.scale-scale.ensures
-    (subst (λ old. RowImported top_count (exponent_of c.scale-scale.result.step) c.args.levels.now old c.import.new.counts c.import.result) c.as-mut-slice.ensures.value c.import.ensures.read)
+    (subst (λ old. RowImported top_count (exponent_of c.scale-scale.result.step) c.args.levels.now old c.import.new.counts c.import.result) c.as_mut_slice.ensures.value c.import.ensures.read)
 
-pub invariant-of-self : goal.invariant-of-self
-invariant-of-self c =
-    let at = (goal.at.invariant-of-self c).After-import in
+pub invariant_of-self : goal.invariant_of-self
+invariant_of-self c =
+    let at = (goal.at.invariant_of-self c).After-import in
     let s = c.args.self.now in
     let within = imported_within top_count s.exponent c.args.levels.now (vec_items s.counts) c.import.new.counts c.import.result (row_is at) c.import.ensures.within s.within in
-    (s.room, (s.same, (subst (WithinTop top_count) (sym (counts_are at)) within, (s.small, tt))))
+    record { room = s.room; same = s.same; within = subst (WithinTop top_count) (sym (counts_are at)) within; small = s.small }
 
 pub returns : goal.returns
 returns c =

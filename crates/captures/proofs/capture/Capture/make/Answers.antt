@@ -15,7 +15,7 @@ use Rattle.captures.specs.Captures.{capture_of, full}
 use Rattle.captures.specs.Calls.{make_due}
 use Rattle.captures.proofs.Counts.{within_from_all, full_within}
 use Rattle.captures.proofs.capture.Capture.make.Goals as goal
-use Rattle.captures.proofs.capture.Capture.make.Goals.{After-put-full-counts, Else-exponent-gt6}
+use Rattle.captures.proofs.capture.Capture.make.Goals.{After-put_full_counts, Else-exponent-gt6}
 
 not_above : (a b : ℕ) → a ≤ b → ltb b a ≡ false
 not_above a b h = le-ltb b a h
@@ -27,19 +27,19 @@ dues_agree c =
     rw (not_above c.args.exponent 6 (omega arith), not_above (length ms) 4096 (sized c.args.plan.now).1)
 
 -- the counts are those of the codeword
-counts_are : (c : After-put-full-counts) → c.put-full-counts.new.counts ≡ map (full top_count) (codeword (marks_of c.args.plan.now) (bits c.args.«data».now))
+counts_are : (c : After-put_full_counts) → c.put_full_counts.new.counts ≡ map (full top_count) (codeword (marks_of c.args.plan.now) (bits c.args.«data».now))
 counts_are c =
     let plan = c.args.plan.now in
     let w = codeword (marks_of plan) (bits c.args.«data».now) in
     let n = c.length-2.result in
-    let done = c.in-default.ensures.value.1 in
+    let done = c.in_default.ensures.value.1 in
     let front : take (n - 0) c.encode.new.out ≡ bytes w =
     ap (λ k. take k c.encode.new.out) (sub-zero n) ∙ ap (take n) done.1 ∙ front_bytes w _ n (length_codeword (marks_of plan) (bits c.args.«data».now) (sized plan).0 ∙ sym c.length-2.ensures) in
-    c.put-full-counts.ensures ∙ ap (λ word. map (full top_count) (bits word)) front ∙ ap (map (full top_count)) (bits_bytes w)
+    c.put_full_counts.ensures ∙ ap (λ word. map (full top_count) (bits word)) front ∙ ap (map (full top_count)) (bits_bytes w)
 
 pub replace-requires : goal.replace-requires
 replace-requires c =
-    let at = (goal.at.replace-requires c).After-put-full-counts in
+    let at = (goal.at.replace-requires c).After-put_full_counts in
     let plan = c.args.plan.now in
     let w = codeword (marks_of plan) (bits c.args.«data».now) in
     let size = sized plan in
@@ -56,5 +56,5 @@ returns-in-Err c = (dues_agree (goal.at.returns-in-Err c).Else-exponent-gt6 ∙ 
 
 pub returns : goal.returns
 returns c =
-    let at = (goal.at.returns c).After-put-full-counts in
-    (dues_agree (goal.at.returns c).Else-exponent-gt6 ∙ c.in-default.ensures.value.0, c.replace.ensures ∙ ap (λ ms. capture_of ms c.put-full-counts.new.counts c.args.exponent) c.marks.ensures ∙ ap (λ counts. capture_of (marks_of c.args.plan.now) counts c.args.exponent) (counts_are at))
+    let at = (goal.at.returns c).After-put_full_counts in
+    (dues_agree (goal.at.returns c).Else-exponent-gt6 ∙ c.in_default.ensures.value.0, c.replace.ensures ∙ ap (λ ms. capture_of ms c.put_full_counts.new.counts c.args.exponent) c.marks.ensures ∙ ap (λ counts. capture_of (marks_of c.args.plan.now) counts c.args.exponent) (counts_are at))

@@ -11,6 +11,6 @@ pub returns : goal.returns
 returns c =
     let word : codeword (true ∷ []) (false ∷ []) ≡ false ∷ [] = ap (λ s. label s (false ∷ [])) balanced_one in
     let counts : map (full top_count) (codeword (true ∷ []) (false ∷ [])) ≡ pos 127 ∷ [] = ap (map (full top_count)) word in
-    let marks : marks_of c.in-ok-plan.plan ≡ true ∷ [] = c.in-ok-plan.ensures in
-    let held : vec_items c.push-reserved.new.self ≡ pos 127 ∷ [] = c.push-reserved.ensures.items ∙ ap (λ z. z ++ pos 127 ∷ []) c.in-ok-counts.ensures.items in
+    let marks : marks_of c.in_ok-plan.plan ≡ true ∷ [] = c.in_ok-plan.ensures in
+    let held : vec_items c.push_reserved.new.self ≡ pos 127 ∷ [] = c.push_reserved.ensures.items ∙ ap (λ z. z ++ pos 127 ∷ []) c.in_ok-counts.ensures.items in
     cc

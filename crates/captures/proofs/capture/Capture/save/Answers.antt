@@ -27,8 +27,8 @@ pub returns : goal.returns
 returns c =
     let s = c.args.self.now in
     let done : Stores top_count (content_in (captured s)) c.args.out.now c.store.result c.store.new.out =
-    subst (λ vs. Stores top_count (content_of (marks_of s.plan) vs s.exponent) c.args.out.now c.store.result c.store.new.out) c.as-slice.ensures.value
-    (subst (λ ms. Stores top_count (content_of ms c.as-slice.result.now s.exponent) c.args.out.now c.store.result c.store.new.out) c.marks.ensures c.store.ensures.stores) in
+    subst (λ vs. Stores top_count (content_of (marks_of s.plan) vs s.exponent) c.args.out.now c.store.result c.store.new.out) c.as_slice.ensures.value
+    (subst (λ ms. Stores top_count (content_of ms c.as_slice.result.now s.exponent) c.args.out.now c.store.result c.store.new.out) c.marks.ensures c.store.ensures.stores) in
     record {
       value = saved_is top_count (captured s) c.args.out.now c.store.new.out c.store.result (sound s) done;
       loads = save_loads top_count (captured s) c.args.out.now c.store.new.out c.store.result done;

@@ -15,7 +15,7 @@ loop-i-preserved c =
     let word = c.args.word.now in
     let i = c.loop-i.i in
     let b = bit (get_or word i 0) in
-    let v : to_z w16 (of_z w16 c.full-count.result) ≡ full top_count b = ap (λ z. to_z w16 (of_z w16 z)) c.full-count.ensures ∙ held b in
+    let v : to_z w16 (of_z w16 c.full_count.result) ≡ full top_count b = ap (λ z. to_z w16 (of_z w16 z)) c.full_count.ensures ∙ held b in
     take_more_set c.loop-i.counts i _ (omega (arith, c.loop-i.auto.counts))
     ∙ ap₂ (λ a z. a ++ z ∷ []) c.loop-i.invariant v
     ∙ sym (ap (map (full top_count)) (map_more bit word i 0 c.loop-i-test.true) ∙ map_push (full top_count) (bits (take i word)) b)

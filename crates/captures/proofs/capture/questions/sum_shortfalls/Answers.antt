@@ -11,7 +11,7 @@ loop-i-preserved c =
     let more = shortfall_more c.args.counts.now c.args.word.now c.loop-i.i c.loop-i-test.true (omega (arith, c.requires.same)) top_count in
     let fits : SFits w16 (get_or c.args.counts.now c.loop-i.i (pos 0)) = search rules in
     let held = ap (λ v. short_of top_count v (bit (get_or c.args.word.now c.loop-i.i 0))) (to_z-of_z w16 (get_or c.args.counts.now c.loop-i.i (pos 0)) fits) in
-    (omega (arith, c.loop-i.invariant.0, more, c.count-shortfall-sum.ensures.value, held), omega (arith, c.loop-i.invariant.1, c.count-shortfall-sum.ensures.most))
+    (omega (arith, c.loop-i.invariant.0, more, c.count_shortfall-sum.ensures.value, held), omega (arith, c.loop-i.invariant.1, c.count_shortfall-sum.ensures.most))
 
 pub returns : goal.returns
 returns c =

@@ -5,8 +5,8 @@ use Rattle.levels.specs.Level.{largest_count}
 use Rattle.levels.proofs.Rounding.{nearest_rounds, rounding_stands, clipping_commutes, within}
 use Rattle.levels.proofs.scale.Scale.count_of.Goals as goal
 
-pub returns-then-is-nan : goal.returns-then-is-nan
-returns-then-is-nan c = record {
+pub returns-then-is_nan : goal.returns-then-is_nan
+returns-then-is_nan c = record {
   value = search rules;
   within = λ n h. let z : ◌≡◌ {A = ℕ} 0 1 = cc in absurd (omega arith);
   rounding = rounding_stands;
@@ -15,8 +15,8 @@ returns-then-is-nan c = record {
 
 pub returns : goal.returns
 returns c =
-    let n = c.nearest-count.result in
-    let converted = c.nearest-count.ensures ∙ ap Some (sym (to_z-of_z w16 n (search rules))) in
+    let n = c.nearest_count.result in
+    let converted = c.nearest_count.ensures ∙ ap Some (sym (to_z-of_z w16 n (search rules))) in
     record {
       value = (search rules, converted);
       within = λ m h. let same : to_z w16 (of_z w16 n) ≡ m = cc in within nearest nearest_rounds largest_count _ c.args.level m (converted ∙ ap Some same);

@@ -10,8 +10,8 @@ returns-then-out-counts c = record { written = search rules; returns = rows_retu
 pub loop-i-preserved : goal.loop-i-preserved
 loop-i-preserved c =
     let f = level_of (exponent_of c.args.self.now.step) in
-    written_more f c.args.counts.now c.args.out.now c.loop-i.out c.loop-i.i (pos 0) c.level-of.result (omega arith) (omega arith) c.loop-i.invariant
-    (c.level-of.ensures.value ∙ ap f (to_z-of_z w16 _ (search rules)))
+    written_more f c.args.counts.now c.args.out.now c.loop-i.out c.loop-i.i (pos 0) c.level_of.result (omega arith) (omega arith) c.loop-i.invariant
+    (c.level_of.ensures.value ∙ ap f (to_z-of_z w16 _ (search rules)))
 
 pub returns : goal.returns
 returns c =

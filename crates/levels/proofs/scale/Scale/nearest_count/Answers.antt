@@ -11,6 +11,6 @@ clamp-clipped-requires c = ordered _ largest_count (omega arith) c.limit-limit.e
 
 pub returns : goal.returns
 returns c =
-    let n = c.nearest-whole.result in
-    counted nearest nearest_rounds largest_count (omega arith) c.args.level _ _ _ _ n (search rules) (search rules) c.factor.ensures c.limit-limit.ensures c.clamp-clipped.ensures.value c.nearest-whole.ensures
+    let n = c.nearest_whole.result in
+    counted nearest nearest_rounds largest_count (omega arith) c.args.level _ _ _ _ n (search rules) (search rules) c.factor.ensures c.limit-limit.ensures c.clamp-clipped.ensures.value c.nearest_whole.ensures
     ∙ ap Some (sym (to_z-of_z w16 n (search rules)))

@@ -5,11 +5,11 @@ use Rattle.levels.specs.Rows.{all_are_numbers}
 use Rattle.levels.proofs.Rows.{numbers_from}
 use Rattle.levels.proofs.scale.rows.all_numbers.Goals as goal
 
-pub returns-then-is-nan : goal.returns-then-is-nan
-returns-then-is-nan c = sym (numbers_from c.args.levels.now c.loop-level.level-index nan _ (omega arith) c.if-is-nan.ensures.value) ∙ c.loop-level.invariant
+pub returns-then-is_nan : goal.returns-then-is_nan
+returns-then-is_nan c = sym (numbers_from c.args.levels.now c.loop-level.level-index nan _ (omega arith) c.if-is_nan.ensures.value) ∙ c.loop-level.invariant
 
 pub loop-level-preserved : goal.loop-level-preserved
-loop-level-preserved c = sym (numbers_from c.args.levels.now c.loop-level.level-index nan _ (omega arith) c.if-is-nan.ensures.value) ∙ c.loop-level.invariant
+loop-level-preserved c = sym (numbers_from c.args.levels.now c.loop-level.level-index nan _ (omega arith) c.if-is_nan.ensures.value) ∙ c.loop-level.invariant
 
 pub returns : goal.returns
 returns c = sym (at_drop_all all_are_numbers c.args.levels.now c.loop-level.level-index (omega arith)) ∙ c.loop-level.invariant

@@ -8,10 +8,10 @@ use Rattle.polar.proofs.PlanFacts.{sized}
 use Rattle.polar.proofs.Minimum.{least_weight, minimum_distance, leaf_weights}
 use Rattle.polar.proofs.plan.Plan.weight.Goals as goal
 
-pub least-weight-requires : goal.least-weight-requires
-least-weight-requires c =
+pub least_weight-requires : goal.least_weight-requires
+least_weight-requires c =
     let size = sized c.args.self.now in
-    let same = c.as-slice.ensures.value in
+    let same = c.as_slice.ensures.value in
     record { some = rw same size.0; short = rw same size.1 }
 
 pub returns : goal.returns
@@ -22,7 +22,7 @@ returns c =
     let size = sized plan in
     let heavy = left_heavy_balanced (length ms) size.0 in
     let all = leaves_balanced (length ms) size.0 in
-    let value : c.least_weight.result ≡ weight s ms = c.least_weight.ensures ∙ rw c.as-slice.ensures.value in
+    let value : c.least_weight.result ≡ weight s ms = c.least_weight.ensures ∙ rw c.as_slice.ensures.value in
     record {
       value = value;
       least = subst (LeastWeight s ms) (sym value) (least_weight s ms heavy (sym all) size.2);

@@ -1,6 +1,5 @@
 use Rattle.std.proofs.Common.{◌≡◌, ◌+◌, ◌<◌, ◌≤◌, [], length, take, sym, arith}
 use Rattle.polar.specs.Preorder.{frame_at, turned, todo}
-use Rattle.polar.specs.declared.frame.Done.TheVariants.{Neither, Left, Both}
 use Rattle.polar.proofs.Walked.{kind_inner, kind_leaf, fitting_child, stepped_left, stepped_right, stepped_out, at_top, todo_leaf, todo_both}
 use Rattle.polar.proofs.walk.Walk.step.Goals as goal
 use Rattle.polar.proofs.walk.Walk.step.Goals.{In-Inner-Both, In-Leaf-default}

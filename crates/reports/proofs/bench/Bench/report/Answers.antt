@@ -14,8 +14,8 @@ use Rattle.reports.specs.Printed.{bench_reading}
 use Rattle.reports.proofs.Readings.{tells_read, prints_true}
 use Rattle.reports.proofs.bench.Bench.report.Goals as goal
 
-pub slice-bounds-tell-capture-end : goal.slice-bounds-tell-capture-end
-slice-bounds-tell-capture-end c =
+pub slice_bounds-tell_capture-end : goal.slice_bounds-tell_capture-end
+slice_bounds-tell_capture-end c =
     let s = c.args.self.now.capture in
     omega (arith, c.in-Ok.ensures.front.0, trues_bound (captured s).marks_row, (sized s.plan).1)
 
@@ -23,12 +23,12 @@ pub returns : goal.returns
 returns c =
     let s = c.args.self.now.capture in
     let k = c.in-Ok.active in
-    let row = c.read-front.new.out in
+    let row = c.read_front.new.out in
     let front : take k row ≡ bytes (data_kept bench_reading (captured s)) =
-    subst (λ (n : ℕ). take k row ≡ bytes (data_kept (split_reading count_kind (shortcut_reading count_kind count_score (exhaustive_reading count_score n))) (captured s))) c.bench-readers-reader.ensures c.in-Ok.ensures.front.1 in
+    subst (λ (n : ℕ). take k row ≡ bytes (data_kept (split_reading count_kind (shortcut_reading count_kind count_score (exhaustive_reading count_score n))) (captured s))) c.bench_readers-reader.ensures c.in-Ok.ensures.front.1 in
     let many = c.in-Ok.ensures.front.0 in
     let room : k ≤ length row = omega (arith, many, trues_bound (captured s).marks_row, (sized s.plan).1) in
-    let text = tells_read top_count (captured s) row (data_kept bench_reading (captured s)) k c.args.self.now.page c.tell-capture.result c.tell-capture.new.self many room front c.tell-capture.ensures in
+    let text = tells_read top_count (captured s) row (data_kept bench_reading (captured s)) k c.args.self.now.page c.tell_capture.result c.tell_capture.new.self many room front c.tell_capture.ensures in
     record {
       text = text;
       light = prints_true top_count (captured s) row (data_kept bench_reading (captured s)) k _ front text c.in-Ok.ensures.light;

@@ -2,8 +2,8 @@ use Rattle.std.proofs.Common.{arith}
 use Rattle.readers.specs.Node.{turns_most}
 use Rattle.scored_readers.proofs.shortcut.ShortcutReader.read.Goals as goal
 
-pub decide-even-requires : goal.decide-even-requires
-decide-even-requires g c =
+pub decide_even-requires : goal.decide_even-requires
+decide_even-requires g c =
     let posed = c.requires.posed in
     record {
       few = turns_most _ _ posed.some posed.short;

@@ -6,17 +6,17 @@ use Rattle.storage.specs.Reading.{coded_count}
 use Rattle.storage.proofs.Steps.{pending_more, pending_refused, pending_all, counts_more, counts_refused, counts_all, fills_exit}
 use Rattle.storage.proofs.cursor.Cursor.counts.Goals as goal
 
-pub returns-in-err-field : goal.returns-in-err-field
-returns-in-err-field c =
-    fills_exit _ c.from-residual.result c.field.new.self c.from-residual.ensures.1
-    (pending_refused _ _ _ _ c.loop-i.invariant (counts_refused top_count (length c.args.counts.now) c.loop-i.i _ _ c.loop-i-test.true c.in-err-field.ensures.reads))
+pub returns-in_err-field : goal.returns-in_err-field
+returns-in_err-field c =
+    fills_exit _ c.from_residual.result c.field.new.self c.from_residual.ensures.1
+    (pending_refused _ _ _ _ c.loop-i.invariant (counts_refused top_count (length c.args.counts.now) c.loop-i.i _ _ c.loop-i-test.true c.in_err-field.ensures.reads))
 
 pub loop-i-preserved : goal.loop-i-preserved
 loop-i-preserved c =
     let fits : SFits w16 c.decoded.result = search rules in
     let is = to_z-of_z w16 _ fits ∙ c.decoded.ensures in
     let more = take_more_set c.loop-i.counts c.loop-i.i _ (omega (arith, c.loop-i.auto.counts)) ∙ ap (λ v. take c.loop-i.i c.loop-i.counts ++ v ∷ []) is in
-    pending_more _ (coded_count c.in-ok-field.field-0 ∷ []) _ _ _ _ more c.loop-i.invariant (counts_more top_count (length c.args.counts.now) c.loop-i.i _ _ c.loop-i-test.true c.in-ok-field.ensures.reads)
+    pending_more _ (coded_count c.in_ok-field.field-0 ∷ []) _ _ _ _ more c.loop-i.invariant (counts_more top_count (length c.args.counts.now) c.loop-i.i _ _ c.loop-i-test.true c.in_ok-field.ensures.reads)
 
 pub returns : goal.returns
 returns c =

@@ -10,13 +10,13 @@ use Rattle.storage.proofs.cursor.Cursor.later_runs.Goals as goal
 pub loop-from-init : goal.loop-from-init
 loop-from-init c = (c.requires.0, (length c.args.marks.now - c.args.from, omega arith, refl))
 
-pub returns-in-err-run : goal.returns-in-err-run
-returns-in-err-run c =
+pub returns-in_err-run : goal.returns-in_err-run
+returns-in_err-run c =
     let inv = c.loop-from.invariant.1 in
     let from = c.loop-from.from in
     let d = c.loop-from.self in
-    let read = ap (λ n. field_at 1 (n - from) d.at (rest d)) (sym c.loop-from.auto.marks) ∙ c.in-err-run.ensures.reads in
-    fills_exit _ c.from-residual.result c.field.new.self c.from-residual.ensures.1
+    let read = ap (λ n. field_at 1 (n - from) d.at (rest d)) (sym c.loop-from.auto.marks) ∙ c.in_err-run.ensures.reads in
+    fills_exit _ c.from_residual.result c.field.new.self c.from_residual.ensures.1
     (pending_refused _ _ _ _ inv.2 (runs_refused _ inv.0 (length c.args.marks.now - from) _ _ (omega arith) inv.1 read))
 
 pub loop-from-preserved : goal.loop-from-preserved
@@ -25,9 +25,9 @@ loop-from-preserved c =
     let from = c.loop-from.from in
     let ms = c.loop-from.marks in
     let d = c.loop-from.self in
-    let run = c.in-ok-run.field-0 in
-    let within = c.in-ok-run.ensures.within in
-    let read = ap (λ n. field_at 1 (n - from) d.at (rest d)) (sym c.loop-from.auto.marks) ∙ c.in-ok-run.ensures.reads in
+    let run = c.in_ok-run.field-0 in
+    let within = c.in_ok-run.ensures.within in
+    let read = ap (λ n. field_at 1 (n - from) d.at (rest d)) (sym c.loop-from.auto.marks) ∙ c.in_ok-run.ensures.reads in
     let long : length (take (from + run - from) (drop from ms)) ≡ run =
     length-take-le (from + run - from) (drop from ms) (simp length-drop (omega (arith, within.1))) ∙ (let e : from + run - from ≡ run = omega arith in e) in
     let filled = c.fill.ensures.after (λ y e. e) ∙ ap (λ n. replicate n c.loop-from.mark) long in
