@@ -1,7 +1,7 @@
 -- Erasing the places where a codeword has 1 leaves its capture and that of the zero word equal. Assumes nothing.
 use Rattle.std.proofs.Common.{◌≡◌, ℕ, suc, ◌+◌, ◌*◌, ◌<◌, ◌≤◌, Bool, true, false, List, [], ◌∷◌, map, length, set, ℤ, pos, None, sym, refl, ap, ◌∙◌, subst, arith, length-set, pow_pos}
 use lib.ListN.{length-map, length-replicate}
-use Rattle.std.specs.List.{AllByRecursion as All}
+use Rattle.std.specs.List.{AllByRecursion}
 use Rattle.std.proofs.lemmas.Bool.{lt-ltb}
 use Rattle.polar.specs.Words.{trues}
 use Rattle.polar.specs.Codewords.{codeword}
@@ -17,11 +17,11 @@ use Rattle.analyser.proofs.Places.{length_places}
 use Rattle.analyser.proofs.Lightest.{length_leaf_word, codeword_zeros, first_weighs}
 
 -- places one further on lie within one more
-further : (n : ℕ) (places : List ℕ) → All (λ p. p < n) places → All (λ p. p < suc n) (map suc places)
+further : (n : ℕ) (places : List ℕ) → AllByRecursion (λ p. p < n) places → AllByRecursion (λ p. p < suc n) (map suc places)
 further n [] inside = tt
 further n (place ∷ places) inside = (omega (arith, inside.0), further n places inside.1)
 
-places_inside : (word : List Bool) → All (λ p. p < length word) (places_of word)
+places_inside : (word : List Bool) → AllByRecursion (λ p. p < length word) (places_of word)
 places_inside [] = tt
 places_inside (true ∷ word) = (omega arith, further (length word) (places_of word) (places_inside word))
 places_inside (false ∷ word) = further (length word) (places_of word) (places_inside word)
@@ -56,7 +56,7 @@ module _ (top : ℕ) where
       more : (a b : ℕ) → a + a * b ≡ a * suc b
       more a b = omega arith
 
-  erasing : (c : Captured) (places : List ℕ) → All (λ p. p < length c.count_row) places → History top c (map erasure places) (with_counts c (erased c.count_row places))
+  erasing : (c : Captured) (places : List ℕ) → AllByRecursion (λ p. p < length c.count_row) places → History top c (map erasure places) (with_counts c (erased c.count_row places))
   erasing c [] inside = none
   erasing c (place ∷ places) inside =
       let before = with_counts c (erased c.count_row places) in
@@ -75,7 +75,7 @@ module _ (top : ℕ) where
         let word = codeword ms (leaf_word ms leaf) in
         let long : length word ≡ length (map (full top) (codeword ms ds)) =
         length_codeword ms (leaf_word ms leaf) some ∙ sym (length-map (codeword ms ds) (full top) ∙ length_codeword ms ds some) in
-        erasing (made_of top ms ds k) (places_of word) (subst (λ n. All (λ p. p < n) (places_of word)) long (places_inside word))
+        erasing (made_of top ms ds k) (places_of word) (subst (λ n. AllByRecursion (λ p. p < n) (places_of word)) long (places_inside word))
 
     pub tight : LimitIsTight top ms (zero_word ms) (leaf_word ms leaf) (places_of (codeword ms (leaf_word ms leaf)))
     tight k scaled =

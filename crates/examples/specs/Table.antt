@@ -3,7 +3,7 @@ use Rattle.std.specs.Prelude.{◌≡◌, ℕ, Bool, true, false, List, [], ◌�
 use Prim.Native.String.{String}
 use Rattle.std.specs.Float.{binary32}
 use Rattle.std.specs.Float.Ieee.{round}
-use Rattle.std.specs.List.{AllByRecursion as All}
+use Rattle.std.specs.List.{AllByRecursion}
 use Rattle.polar.specs.Marks.{single}
 use Rattle.soft.specs.declared.count.Count.{Count}
 use Rattle.soft.specs.Counts.{count_kind, count_score, top_count}
@@ -128,4 +128,4 @@ abbrev pub Holds : Row → Type 0
 Holds row = found row.asked ≡ row.told
 
 abbrev pub EveryRowHolds : Type 0
-EveryRowHolds = All Holds table
+EveryRowHolds = AllByRecursion Holds table

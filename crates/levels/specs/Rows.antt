@@ -1,6 +1,6 @@
 -- Rows of counts and of levels. Assumes nothing.
 use Rattle.std.specs.Prelude.{◌≡◌, ℕ, ◌≤◌, Bool, true, not, ◌&&◌, List, [], ◌∷◌, ◌++◌, map, length, drop, ℤ, Some, None, Ok, Option, Result, ◌==◌, is_nan, nat_lt, unsigned_abs, Float}
-use Rattle.std.specs.List.{AllByRecursion as All}
+use Rattle.std.specs.List.{AllByRecursion}
 use Rattle.polar.specs.declared.refusal.Refusal.{Refusal}
 use Rattle.polar.specs.declared.refusal.Refusal.TheVariants.{Range, Output, ItemCount}
 use Rattle.polar.specs.Refusals.{Outcome, refused_if, refused_unless}
@@ -13,7 +13,7 @@ all_are_numbers (x ∷ xs) = not (is_nan x) && all_are_numbers xs
 
 -- each count lies in -top..top
 abbrev pub AllWithin : ℕ → List ℤ → Type 0
-AllWithin top cs = All (λ c. unsigned_abs c ≤ top) cs
+AllWithin top cs = AllByRecursion (λ c. unsigned_abs c ≤ top) cs
 
 -- the refusal that is due where n levels are written over a row
 abbrev pub export_due : ℕ → List Float → Option Refusal

@@ -1,6 +1,6 @@
 -- The smallest weight over the nodes of a tree is the tree's weight. Assumes nothing.
 use Rattle.std.proofs.Common.{◌≡◌, ℕ, zero, suc, ◌+◌, ◌-◌, ◌*◌, ◌^◌, ◌≤◌, Bool, true, false, cond, eqb, List, [], ◌∷◌, ◌++◌, get_or, take, drop, sym, refl, ap, ◌∙◌, mul_assoc, mul-le-mul_left, mul-add, arith, take-take}
-use Rattle.std.specs.List.{AllByRecursion as All}
+use Rattle.std.specs.List.{AllByRecursion}
 use Rattle.std.proofs.lemmas.List.{drop-take, drop-drop}
 use Rattle.std.proofs.lemmas.Bool.Decides.{nat_tests}
 use Rattle.std.proofs.lemmas.Bool.{ne_eqb}
@@ -82,12 +82,12 @@ module _ (ms : List Bool) where
       turned r (from + n) 0 ∙ ap (λ w. 2 * w) (lightest_weight r (from + n) ∙ ap (weight r) (sym (drop-drop n from ms))) in
       inner l r from 0 ∙ rw (left, right)
 
-all_append : {X : Type 0} (P : X → Type 0) (xs ys : List X) → All P xs → All P ys → All P (xs ++ ys)
+all_append : {X : Type 0} (P : X → Type 0) (xs ys : List X) → AllByRecursion P xs → AllByRecursion P ys → AllByRecursion P (xs ++ ys)
 all_append P [] ys p q = q
 all_append P (x ∷ xs) ys p q = (p.0, all_append P xs ys p.1 q)
 
 -- Each node lies within the block and has at most 12 turns, since a turn at least halves the length.
-within_by : (s : Shape) (from t len : ℕ) → LeftHeavy s → from + leaves s ≤ len → 2 ^ t * leaves s ≤ 4096 → All (Within len) (nodes s from t)
+within_by : (s : Shape) (from t len : ℕ) → LeftHeavy s → from + leaves s ≤ len → 2 ^ t * leaves s ≤ 4096 → AllByRecursion (Within len) (nodes s from t)
 within_by leaf from t len w h small = ((h, few_turns t (omega arith)), tt)
 within_by (node l r) from t len w h small =
     let p = 2 ^ t in
@@ -102,7 +102,7 @@ within_by (node l r) from t len w h small =
           (within_by l from t len w.1 (omega arith) (omega arith)) (within_by r (from + leaves l) (t + 1) len w.2 (omega arith) (omega arith)),
     )
 
-pub nodes_within : (n : ℕ) → 1 ≤ n → n ≤ 4096 → All (Within n) (reading_order n)
+pub nodes_within : (n : ℕ) → 1 ≤ n → n ≤ 4096 → AllByRecursion (Within n) (reading_order n)
 nodes_within n some short =
     let size = leaves_balanced n some in
     within_by (balanced n) 0 0 n (left_heavy_balanced n some) (omega arith) (omega arith)

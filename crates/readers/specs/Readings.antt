@@ -1,6 +1,6 @@
 -- What a reader means, and the rules that it keeps. Assumes nothing.
 use Rattle.std.specs.Prelude.{◌≡◌, ℕ, ◌+◌, ◌*◌, ◌^◌, ◌<◌, ◌≤◌, min, Bool, true, T, List, [], ◌∷◌, length}
-use Rattle.std.specs.List.{AllByRecursion as All}
+use Rattle.std.specs.List.{AllByRecursion}
 use Rattle.soft.specs.Kind.{Kind, limit}
 use Rattle.polar.specs.Marks.{Codeword, weight}
 use Rattle.polar.specs.Codewords.{tree_of}
@@ -24,7 +24,7 @@ capped n = min n (most_places + 1)
 
 -- each value fits the turns
 abbrev pub AllFit : {K : Type 0} → Kind K → ℕ → List K → Type 0
-AllFit kind turns values = All (λ v. T (kind.fitting v turns)) values
+AllFit kind turns values = AllByRecursion (λ v. T (kind.fitting v turns)) values
 
 -- a node as it is given to a reader
 pub record Posed {K : Type 0} (kind : Kind K) (marks : List Bool) (turns : ℕ) (values : List K) : Type 0 where

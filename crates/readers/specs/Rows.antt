@@ -3,7 +3,7 @@ use Rattle.std.specs.Prelude.{◌≡◌, ℕ, zero, suc, ◌+◌, ◌-◌, ◌<�
 use Rattle.std.proofs.Common.{sym, ap, subst, ◌∙◌, arith, length-take}
 use Rattle.std.proofs.Math.Nat.{sub-zero}
 use borrow.Rule.Slice.PartMut.{put_mid, post_of}
-use Rattle.std.specs.List.{AllByRecursion as All}
+use Rattle.std.specs.List.{AllByRecursion}
 use Rattle.std.proofs.lemmas.List.{length-append, length-drop, take_rest, length-take-le, take_at, drop_at, take_more, take_more_set, get_or_read}
 use Rattle.std.proofs.ByRecursion.{All-get_or}
 use Rattle.polar.specs.Words.{xor, merge, plus}
@@ -12,7 +12,7 @@ use Rattle.polar.proofs.Merges.{get_or_merge_past, merge_more, merge_past}
 use Rattle.polar.proofs.InPlace.{both_done}
 use Rattle.readers.specs.SplitReading.{joins}
 
-pub all_read : {A : Type 0} (P : A → Type 0) (xs : List A) (i : ℕ) (x : A) → i < length xs → x ≡ slice_index_or xs i x → All P xs → P x
+pub all_read : {A : Type 0} (P : A → Type 0) (xs : List A) (i : ℕ) (x : A) → i < length xs → x ≡ slice_index_or xs i x → AllByRecursion P xs → P x
 all_read P xs i x h read all = subst P (sym read) (All-get_or P xs i x h all)
 
 -- `&s[0..n]` as the checker reads it
@@ -48,7 +48,7 @@ module _ {A : Type 0} (f : A → A → A) where
       let same : get_or ys i x ≡ y = sym (get_or_read ys i y q ready x) in
       sym (merge_more f xs ys i x p q ∙ ap (set (merge f xs (take i ys)) i) (let left = sym readx in cc))
 
-  pub all_merge : (P : A → Type 0) → ((x y : A) → P x → P y → P (f x y)) → (xs ys : List A) → All P xs → All P ys → All P (merge f xs ys)
+  pub all_merge : (P : A → Type 0) → ((x y : A) → P x → P y → P (f x y)) → (xs ys : List A) → AllByRecursion P xs → AllByRecursion P ys → AllByRecursion P (merge f xs ys)
   all_merge P both [] ys p q = tt
   all_merge P both (x ∷ xs) [] p q = p
   all_merge P both (x ∷ xs) (y ∷ ys) p q = (both x y p.0 q.0, all_merge P both xs ys p.1 q.1)
@@ -76,7 +76,7 @@ module _ {K : Type 0} (f : K → K → Bool → K) where
       let there = get_or_joins vs ws bits i d false within p q in
       cc
 
-  pub all_joins : (P Q : K → Type 0) → ((v w : K) (b : Bool) → P v → P w → Q (f v w b)) → (vs ws : List K) (bits : List Bool) → All P vs → All P ws → All Q (joins f vs ws bits)
+  pub all_joins : (P Q : K → Type 0) → ((v w : K) (b : Bool) → P v → P w → Q (f v w b)) → (vs ws : List K) (bits : List Bool) → AllByRecursion P vs → AllByRecursion P ws → AllByRecursion Q (joins f vs ws bits)
   all_joins P Q both [] ws bits p q = tt
   all_joins P Q both (v ∷ vs) [] bits p q = tt
   all_joins P Q both (v ∷ vs) (w ∷ ws) [] p q = tt

@@ -1,7 +1,7 @@
 -- The laws of the stored form: contents and accepted bytes correspond one to one, numbers are read where their forms stand,
 -- and each refusal names its place. Assumes nothing.
 use Rattle.std.specs.Prelude.{◌≡◌, ℕ, ◌+◌, ◌^◌, ◌<◌, ◌⊎◌, List, ◌++◌, length, Ok, Err, ◌≢◌}
-use Rattle.std.specs.List.{AllByRecursion as All}
+use Rattle.std.specs.List.{AllByRecursion}
 use Rattle.polar.specs.declared.refusal.Refusal.{Refusal}
 use Rattle.polar.specs.declared.refusal.Refusal.TheVariants.{InputEnds, NumberForm, FieldRule, BytesRemain}
 use Rattle.storage.specs.Contents.{Content, Sound}
@@ -9,7 +9,7 @@ use Rattle.storage.specs.Stored.{number, stored}
 use Rattle.storage.specs.Reading.{Read, got, refused, number_at, outcome}
 
 abbrev pub Bytes : List ℕ → Type 0
-Bytes bytes = All (λ b. b < 256) bytes
+Bytes bytes = AllByRecursion (λ b. b < 256) bytes
 
 -- what is stored is loaded again
 abbrev pub LoadsWhatIsStored : ℕ → Type 0

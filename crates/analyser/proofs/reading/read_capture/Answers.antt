@@ -23,7 +23,7 @@ read-requires g c =
     rw (same, is) record {
       taken = facts.0;
       posed = posed_capture g.K.Soft.kind spoken g.met.K.Spoken.fitting s;
-      out_room = cut.front-len ∙ long;
+      out_room = cut.front_len ∙ long;
       soft_room = omega (arith, facts.3, half.back_len, long);
       bit_room = omega (arith, facts.4, cut.back_len, long);
       soft_told = facts.1;

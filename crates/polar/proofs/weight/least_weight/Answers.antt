@@ -1,5 +1,5 @@
 use Rattle.std.proofs.Common.{◌≡◌, ◌≤◌, Bool, List, ◌∷◌, length, sym, ap, ◌∙◌, subst}
-use Rattle.std.specs.List.{AllByRecursion as All}
+use Rattle.std.specs.List.{AllByRecursion}
 use Rattle.polar.specs.Shape.{balanced}
 use Rattle.polar.specs.Walks.{current, remaining, Begun}
 use Rattle.polar.specs.Lightest.{node_weight, lightest, Within}
@@ -9,10 +9,10 @@ use Rattle.polar.proofs.weight.least_weight.Goals as goal
 
 -- a walk over marks that stands on the root: each of its nodes lies within the block and has few turns
 all_within : (marks : List Bool) (walk : Walk) → 1 ≤ length marks → length marks ≤ 4096 → Begun (length marks) walk
-    → All (Within (length marks)) (current walk ∷ remaining walk)
+    → AllByRecursion (Within (length marks)) (current walk ∷ remaining walk)
 all_within marks walk some short is =
     let n = length marks in
-    subst (All (Within n)) (sym is) (nodes_within n some short)
+    subst (AllByRecursion (Within n)) (sym is) (nodes_within n some short)
 
 pub leaf_weight-least-requires : goal.leaf_weight-least-requires
 leaf_weight-least-requires c =
@@ -29,14 +29,14 @@ loop-node-init c =
 pub leaf_weight-requires : goal.leaf_weight-requires
 leaf_weight-requires c =
     let moved = c.in-Some.ensures.moved in
-    (subst (All (Within (length c.args.marks.now))) moved.0 c.loop-node.invariant.1).0
+    (subst (AllByRecursion (Within (length c.args.marks.now))) moved.0 c.loop-node.invariant.1).0
 
 pub loop-node-preserved : goal.loop-node-preserved
 loop-node-preserved c =
     let marks = c.args.marks.now in
     let moved = c.in-Some.ensures.moved in
     let left = lightest marks (remaining c.advance.new.self) in
-    let all = subst (All (Within (length marks))) moved.0 c.loop-node.invariant.1 in
+    let all = subst (AllByRecursion (Within (length marks))) moved.0 c.loop-node.invariant.1 in
     let same = rw moved.0 at c.loop-node.invariant.0 in
     (rw (c.lighter-least.ensures, c.leaf_weight.ensures) (lesser_assoc c.loop-node.least (node_weight marks c.in-Some.node) left ∙ same), all.1)
 

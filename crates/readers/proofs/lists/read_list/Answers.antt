@@ -15,7 +15,7 @@ read-requires g c =
     rw same record {
       taken = facts.0;
       posed = posed;
-      out_room = cut.front-len ∙ long;
+      out_room = cut.front_len ∙ long;
       soft_room = omega (arith, facts.3);
       bit_room = omega (arith, facts.4, cut.back_len);
       soft_told = facts.1;

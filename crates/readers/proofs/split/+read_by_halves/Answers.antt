@@ -30,7 +30,7 @@ compare_halves-requires g t c =
     record {
       few = turns_most _ _ posed.some posed.short;
       halved = (omega (arith, posed.same), omega (arith, posed.same));
-      room = c.split_at_mut-work.ensures.front-len;
+      room = c.split_at_mut-work.ensures.front_len;
       fits = posed.fits;
     }
 
@@ -38,7 +38,7 @@ pub read_by_halves-requires : goal.read_by_halves-requires
 read_by_halves-requires g t c κs within =
     let two = split_node g c.args.below.now c.requires.posed c.takes.ensures c.if-takes.false in
     let half = c.children-half.ensures.left two in
-    let size = c.split_at.ensures.front-len in
+    let size = c.split_at.ensures.front_len in
     let room = length_front c.children-half.result.0 c.args.out.now (omega (arith, c.requires.out_room)) in
     let ready = left_ready g.K.Soft.kind g.met.K.Soft.rules _ (g.met.R.Reader.rules c.args.below.now) _ _ _ _ _ _ c.requires two _ half _ c.split_at_mut-work.ensures.back_len _ _ _ c.split_at.ensures.front c.compare_halves.ensures room in
     (omega (arith, c.decreases), (within.0, (within.1, ready)))
@@ -50,7 +50,7 @@ join_halves-requires g t c =
     let half = c.children-half.ensures.left two in
     let other = c.children-half.ensures.right in
     let wide = c.read_by_halves.auto.out ∙ length_front c.children-half.result.0 c.args.out.now (omega (arith, c.requires.out_room)) in
-    let work : c.children-half.result.1 ≤ length c.compare_halves.new.out = omega (arith, c.compare_halves.auto.out, c.split_at_mut-work.ensures.front-len) in
+    let work : c.children-half.result.1 ≤ length c.compare_halves.new.out = omega (arith, c.compare_halves.auto.out, c.split_at_mut-work.ensures.front_len) in
     record {
       few = few_turns _ _ two posed.short;
       halved = (omega (arith, posed.same), omega (arith, posed.same));
@@ -95,7 +95,7 @@ returns g t c =
     let wide = c.read_by_halves.auto.out ∙ length_front n c.args.out.now fits in
     let size : length c.split_at.result.1.now ≡ length c.args.marks.now / 2 = omega (arith, c.split_at.ensures.back_len) in
     let under = ap (right_values kind n c.args.values.now) (take_front n left _ wide) in
-    let isl = c.read_by_halves.ensures ∙ same_answer kind below _ _ _ _ _ n c.split_at.ensures.front c.compare_halves.ensures c.split_at.ensures.front-len in
+    let isl = c.read_by_halves.ensures ∙ same_answer kind below _ _ _ _ _ n c.split_at.ensures.front c.compare_halves.ensures c.split_at.ensures.front_len in
     let isr = c.read_by_halves-2.ensures ∙ same_answer kind below _ _ _ _ _ _ c.split_at.ensures.back (c.join_halves.ensures ∙ under) size in
     let short : length right ≤ n = omega (arith, c.read_by_halves-2.auto.out, written_tail n left c.args.out.now wide fits, c.requires.out_room) in
     joined_rows n left right c.args.out.now _ wide short fits c.add_right.ensures ∙ split_untaken kind below _ _ _ n left right (sym c.takes.ensures ∙ c.if-takes.false) two half isl isr

@@ -8,6 +8,6 @@ join_into-requires g c =
     record {
       few = c.requires.few;
       room = omega (arith, c.requires.room, halves.back_len);
-      paired = (omega (arith, c.requires.halved.1, halves.front-len, halves.back_len), omega (arith, c.requires.halved.1, c.requires.left, halves.back_len));
+      paired = (omega (arith, c.requires.halved.1, halves.front_len, halves.back_len), omega (arith, c.requires.halved.1, c.requires.left, halves.back_len));
       fits = (rw halves.front (All-take _ c.args.half _ c.requires.fits), rw halves.back (All-drop _ c.args.half _ c.requires.fits));
     }

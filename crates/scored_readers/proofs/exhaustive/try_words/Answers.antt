@@ -39,13 +39,13 @@ loop-number-preserved g c =
       elim c.if-top-score.branch [
         | then-top-score w ↦
             let copied = w.out-is ∙ w.copy_from_slice-then-top-score.ensures.after in
-            better word score n _ _ _ next scored inv.1.1 (grind (arith, ints, w.if-top-score.true)) _ _ copied w.top_is
-        | else-top-score w ↦ no_better word score n _ _ _ next scored inv.1.1 w.if-top-score.false _ _ _ inv.1.0 w.out-is w.top_is
+            better word score n _ _ _ next scored inv.1.1 (grind (arith, ints, w.if-top-score.true)) _ _ copied w.top-is
+        | else-top-score w ↦ no_better word score n _ _ _ next scored inv.1.1 w.if-top-score.false _ _ _ inv.1.0 w.out-is w.top-is
       ],
     )
 
-pub shape-of-rows : goal.shape-of-rows
-shape-of-rows g c = length_rows c.args.marks.now c.loop-number.rows c.loop-number.number 1 c.loop-number.invariant.0 ∙ sym c.requires.room.0
+pub shape_of-rows : goal.shape_of-rows
+shape_of-rows g c = length_rows c.args.marks.now c.loop-number.rows c.loop-number.number 1 c.loop-number.invariant.0 ∙ sym c.requires.room.0
 
 pub returns : goal.returns
 returns g c =
