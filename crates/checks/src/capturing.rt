@@ -8,7 +8,7 @@ use std::test::Fail;
 #[test]
 fn new_place(rt: HostRuntime) -> Result<(), Fail> {
     let capture = Capture::new(rt.alloc())?;
-    assert!(rt; capture.counts() == [127]);
+    assert!(rt; capture.counts() == [127].as_slice());
     assert_eq!(rt; (capture.exponent(), capture.plan().length()), (0, 1));
     Ok(())
 }
@@ -21,9 +21,9 @@ fn making_refuses_in_order(rt: HostRuntime) -> Result<(), Fail> {
     assert_eq!(rt; capture.make(&plan, 7, &[2]), Err(Refusal::Range));
     assert_eq!(rt; capture.make(&plan, 6, &[1]), Err(Refusal::Data));
     assert_eq!(rt; capture.make(&plan, 6, &[1, 2]), Err(Refusal::Data));
-    assert!(rt; capture.counts() == [127]);
+    assert!(rt; capture.counts() == [127].as_slice());
     assert_eq!(rt; capture.make(&plan, 6, &[1, 1]), Ok(()));
-    assert!(rt; capture.counts() == [127, -127, -127, 127, -127, -127]);
+    assert!(rt; capture.counts() == [127, -127, -127, 127, -127, -127].as_slice());
     Ok(())
 }
 
@@ -34,13 +34,13 @@ fn edits(rt: HostRuntime) -> Result<(), Fail> {
     let plan = Plan::new(rt.alloc())?;
     capture.make(&plan, 3, &[1])?;
     assert_eq!(rt; capture.edit(0, Edit::Weaken(126)), Ok(()));
-    assert!(rt; capture.counts() == [-1]);
+    assert!(rt; capture.counts() == [-1].as_slice());
     assert_eq!(rt; capture.edit(0, Edit::Weaken(127)), Ok(()));
-    assert!(rt; capture.counts() == [0]);
+    assert!(rt; capture.counts() == [0].as_slice());
     assert_eq!(rt; capture.edit(0, Edit::Level(-0.0625)), Ok(()));
-    assert!(rt; capture.counts() == [-1]);
+    assert!(rt; capture.counts() == [-1].as_slice());
     assert_eq!(rt; capture.edit(0, Edit::Count(-127)), Ok(()));
-    assert!(rt; capture.counts() == [-127]);
+    assert!(rt; capture.counts() == [-127].as_slice());
     Ok(())
 }
 
@@ -52,7 +52,7 @@ fn edits_refuse_in_order(rt: HostRuntime) -> Result<(), Fail> {
     assert_eq!(rt; capture.edit(0, Edit::Weaken(128)), Err(Refusal::Range));
     assert_eq!(rt; capture.edit(0, Edit::Count(-128)), Err(Refusal::Range));
     assert_eq!(rt; capture.edit(0, Edit::Level(f32::NAN)), Err(Refusal::Range));
-    assert!(rt; capture.counts() == [127]);
+    assert!(rt; capture.counts() == [127].as_slice());
     Ok(())
 }
 
@@ -79,7 +79,7 @@ fn levels_out_and_in(rt: HostRuntime) -> Result<(), Fail> {
     assert_eq!(rt; capture.import(&row), Err(Refusal::ItemCount));
     assert_eq!(rt; capture.import(&[1.0, f32::NAN]), Err(Refusal::Range));
     assert_eq!(rt; capture.import(&[1.0, -1.0]), Ok(()));
-    assert!(rt; capture.counts() == [8, -8]);
+    assert!(rt; capture.counts() == [8, -8].as_slice());
     Ok(())
 }
 

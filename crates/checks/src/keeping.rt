@@ -13,13 +13,13 @@ pub(crate) const WORKED: [u8; 14] = [
 fn worked_bytes(rt: HostRuntime) -> Result<(), Fail> {
     let mut capture = Capture::new(rt.alloc())?;
     assert_eq!(rt; capture.load(&WORKED), Ok(()));
-    assert!(rt; capture.counts() == [127, 0, 0, 127, 0, -127]);
-    assert!(rt; capture.plan().marks() == [false, false, false, false, true, true]);
+    assert!(rt; capture.counts() == [127, 0, 0, 127, 0, -127].as_slice());
+    assert!(rt; capture.plan().marks() == [false, false, false, false, true, true].as_slice());
     assert_eq!(rt; capture.exponent(), 3);
     let mut out = [9u8; 16];
     assert_eq!(rt; capture.save(&mut out[0..13]), Err(Refusal::Output));
     assert_eq!(rt; capture.save(&mut out), Ok(14));
-    assert!(rt; &out[0..14] == WORKED && out[14] == 9);
+    assert!(rt; &out[0..14] == WORKED.as_slice() && out[14] == 9);
     Ok(())
 }
 
@@ -48,7 +48,7 @@ fn damaged_bytes(rt: HostRuntime) -> Result<(), Fail> {
         refused(&mut place, &[0x01, 0x81, 0x20]),
         Some((10, Some(1)))
     );
-    assert!(rt; place.counts() == [127]);
+    assert!(rt; place.counts() == [127].as_slice());
     Ok(())
 }
 
@@ -68,7 +68,7 @@ fn fields_against_their_rules(rt: HostRuntime) -> Result<(), Fail> {
         Some((11, Some(6)))
     );
     assert_eq!(rt; refused(&mut place, &[1, 1, 0, 0, 1, 3]), None);
-    assert!(rt; place.counts() == [-2]);
+    assert!(rt; place.counts() == [-2].as_slice());
     Ok(())
 }
 

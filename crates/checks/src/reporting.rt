@@ -85,12 +85,12 @@ fn pages_refuse_other_data(rt: HostRuntime) -> Result<(), Fail> {
     assert!(rt; page.text().is_empty());
     let capture = Capture::new(rt.alloc())?;
     page.tell_refusal(Refusal::Range);
-    assert!(rt; page.text() == b"refused 5\n");
+    assert!(rt; page.text() == b"refused 5\n".as_slice());
     assert_eq!(rt; page.tell_capture(&capture, &[0, 0]), Err(Refusal::Data));
     assert_eq!(rt; page.tell_capture(&capture, &[2]), Err(Refusal::Data));
-    assert!(rt; page.text() == b"refused 5\n");
+    assert!(rt; page.text() == b"refused 5\n".as_slice());
     assert_eq!(rt; page.tell_capture(&capture, &[1]), Ok(()));
     let all = b"length 1\nactive 1\nweight 1\ndata 1\nshortfall 254 of 127\nagainst 0\n";
-    assert!(rt; page.text() == all);
+    assert!(rt; page.text() == all.as_slice());
     Ok(())
 }

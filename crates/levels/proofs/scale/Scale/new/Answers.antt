@@ -9,7 +9,7 @@ invariant_of-result c =
     record {
       small = omega (arith, m.exponent);
       step_exact = m.step;
-      top_exact = top_exact largest_count _ _ _ (omega arith) (omega arith) (omega (arith, m.exponent)) top_is m.step
+      top_exact = top_exact largest_count _ _ _ (omega arith) (omega arith) (omega (arith, m.exponent)) top_is m.step;
     }
 
 pub returns : goal.returns
