@@ -1,6 +1,6 @@
 -- What every list of calls keeps of a capture: its plan and exponent, its range, and that it is no further from the
 -- sender's word than the charges of the list. Assumes nothing.
-use Rattle.std.proofs.Common.{◌≡◌, ℕ, ◌+◌, ◌<◌, ◌≤◌, Bool, true, false, ltb, List, [], ◌∷◌, ◌++◌, map, length, get_or, take, drop, set, ℤ, pos, nat_abs, Some, None, Ok, Err, Result, sym, refl, ap, ◌∙◌, subst, ⊎_elim, arith, length-set, take_at}
+use Rattle.std.proofs.Common.{◌≡◌, ℕ, ◌+◌, ◌<◌, ◌≤◌, Bool, true, ltb, List, ◌∷◌, length, get_or, take, drop, ℤ, pos, None, Ok, Err, Result, sym, ap, ◌∙◌, subst, ⊎_elim, arith, length-set, take_at}
 use lib.Ieee.{Float}
 use Rattle.std.proofs.lemmas.Bool.{ltb-true}
 use Rattle.polar.specs.declared.refusal.Refusal.{Refusal}
@@ -13,8 +13,7 @@ use Rattle.storage.specs.Laws.{LoadsWhatIsStored}
 use Rattle.captures.specs.declared.edit.Edit.{Edit}
 use Rattle.captures.specs.Tops.{WithinTop}
 use Rattle.captures.specs.Captures.{Captured, capture_of, content_in, with_counts, shortfall}
-use Rattle.captures.specs.Calls.{Answer, allowed, charge, count_after, edited_at, edit_due, Edited, Exported, Imported, Saved, saved_bytes, Loaded}
-use Rattle.captures.specs.Promises.{Returns}
+use Rattle.captures.specs.Calls.{allowed, charge, count_after, edited_at, edit_due, Exported, Imported, Saved, saved_bytes, Loaded}
 use Rattle.captures.proofs.Counts.{within_set, edit_within}
 use Rattle.captures.proofs.Shortfalls.{charged}
 use Rattle.captures.proofs.Imports.{export_returns}

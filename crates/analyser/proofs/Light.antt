@@ -1,5 +1,5 @@
 -- The data read of a capture by counts are the sender's, as long as the charges stay under the bound. Assumes nothing.
-use Rattle.std.proofs.Common.{◌≡◌, ℕ, zero, suc, ◌+◌, ◌*◌, ◌^◌, ◌<◌, ◌≤◌, Bool, true, false, ◌&&◌, eqb, ltb, List, [], ◌∷◌, map, length, ℤ, IfOk, None, Ok, Err, Result, sym, refl, ap, ◌∙◌, subst, ap₂, arith}
+use Rattle.std.proofs.Common.{◌≡◌, ℕ, zero, suc, ◌+◌, ◌*◌, ◌<◌, ◌≤◌, Bool, true, ◌&&◌, eqb, ltb, List, [], ◌∷◌, map, length, ℤ, IfOk, None, Ok, Err, Result, sym, refl, ap, ◌∙◌, subst, ap₂, arith}
 use lib.ListN.{length-map}
 use Rattle.std.proofs.lemmas.Bool.{and_parts, ltb-true, ltb-false, eqb-true}
 use Rattle.polar.specs.declared.refusal.Refusal.{Refusal}
@@ -18,11 +18,10 @@ use Rattle.levels.specs.Level.{top_exponent}
 use Rattle.levels.proofs.Rows.{rows_return}
 use Rattle.storage.proofs.RoundTrip.{loads_what_is_stored}
 use Rattle.captures.specs.Captures.{Captured, full, made_of, shortfall}
-use Rattle.captures.specs.Calls.{Made, make_due}
+use Rattle.captures.specs.Calls.{make_due}
 use Rattle.captures.proofs.Counts.{within_from_all, full_within}
 use Rattle.captures.proofs.Shortfalls.{shortfall_full}
-use Rattle.analyser.specs.Histories.{Call, charges, History}
-use Rattle.analyser.specs.Assurance.{Planned, bound, LightHistoriesReadTrue}
+use Rattle.analyser.specs.Assurance.{Planned, LightHistoriesReadTrue}
 use Rattle.analyser.specs.Reading.{values_of}
 use Rattle.analyser.proofs.Keeping.{Kept, keeps}
 

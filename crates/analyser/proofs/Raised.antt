@@ -1,5 +1,5 @@
 -- For every plan some two data words are confused by erasures charged the bound. Assumes nothing.
-use Rattle.std.proofs.Common.{◌≡◌, ℕ, Bool, List, length, sym}
+use Rattle.std.proofs.Common.{ℕ, Bool, List, length, sym}
 use Rattle.polar.specs.Codewords.{tree_of, codeword}
 use Rattle.polar.proofs.Shapes.{leaves_balanced, left_heavy_balanced}
 use Rattle.polar.proofs.Minimum.{least_weight}

@@ -1,5 +1,5 @@
 -- Comparing the reading of a fresh list with the reading of a kept capture. Assumes nothing.
-use Rattle.std.specs.Prelude.{◌≡◌, ℕ, ◌*◌, ◌<◌, Bool, true, List, length, None, Option, Result}
+use Rattle.std.specs.Prelude.{◌≡◌, ℕ, Bool, true, List, length, None, Option, Result}
 use Rattle.polar.specs.declared.refusal.Refusal.{Refusal}
 use Rattle.polar.specs.Refusals.{Outcome}
 use Rattle.polar.specs.Codewords.{data_of}

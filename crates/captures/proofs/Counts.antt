@@ -1,9 +1,9 @@
 -- Counts within the top, and what the calls leave of them. Assumes nothing.
-use Rattle.std.proofs.Common.{◌≡◌, ℕ, suc, ◌<◌, ◌≤◌, Bool, true, false, not, ◌≢◌, List, [], ◌∷◌, map, length, get_or, set, ℤ, pos, negsuc, ◌+ℤ◌, neg_ℤ, nat_abs, ◌≤ℤ◌, Some, None, Option, unwrap_or, sym, refl, ap, ◌∙◌, subst, ⊎_elim, arith, length-set, get_or-set_other, get_or-set_same}
+use Rattle.std.proofs.Common.{◌≡◌, ℕ, suc, ◌<◌, ◌≤◌, Bool, true, false, List, [], ◌∷◌, map, length, get_or, set, ℤ, pos, negsuc, ◌+ℤ◌, neg_ℤ, nat_abs, ◌≤ℤ◌, Some, None, Option, unwrap_or, sym, refl, ap, ◌∙◌, subst, ⊎_elim, arith, length-set, get_or-set_other, get_or-set_same}
 use borrow.Author.Differences.{ints}
 use lib.Signed.{lt_z}
-use lib.Ieee.{Float, is_nan}
-use Rattle.std.proofs.lemmas.Bool.{cases_eq, leb-true, and_parts}
+use lib.Ieee.{Float}
+use Rattle.std.proofs.lemmas.Bool.{cases_eq, leb-true}
 use Rattle.std.proofs.ByRecursion.{All-get_or}
 use Rattle.levels.specs.Level.{count_of}
 use Rattle.levels.specs.Rows.{AllWithin}

@@ -1,10 +1,10 @@
 -- What importing leaves of a capture, and that exporting and importing again leaves it equal. Assumes nothing.
-use Rattle.std.proofs.Common.{◌≡◌, ℕ, ◌^◌, ◌<◌, ◌≤◌, Bool, true, false, List, ◌++◌, map, length, take, drop, ℤ, Some, Ok, Err, Result, sym, refl, ap, ◌∙◌, subst, arith, take_at}
+use Rattle.std.proofs.Common.{◌≡◌, ℕ, List, map, length, take, drop, ℤ, Some, Ok, Err, Result, sym, refl, ap, ◌∙◌, subst, arith, take_at}
 use lib.ListN.{length-map}
 use lib.Ieee.{Float}
 use Rattle.polar.specs.declared.refusal.Refusal.{Refusal}
 use Rattle.levels.specs.Level.{level_of, count_of}
-use Rattle.levels.specs.Rows.{AllWithin, RowExported, RowImported, RowsReturn}
+use Rattle.levels.specs.Rows.{AllWithin, RowImported, RowsReturn}
 use Rattle.captures.specs.Tops.{WithinTop}
 use Rattle.captures.specs.Captures.{Captured, with_counts}
 use Rattle.captures.specs.Calls.{Answer, Exported, Imported}

@@ -1,7 +1,6 @@
 -- How far one edit takes the counts from a word: at most by its charge. Assumes nothing.
 use Rattle.std.proofs.Common.{◌≡◌, ℕ, zero, suc, ◌+◌, ◌*◌, ◌<◌, ◌≤◌, Bool, true, false, List, [], ◌∷◌, map, length, get_or, set, ℤ, pos, negsuc, ◌-ℤ◌, nat_abs, sym, refl, ap, ◌∙◌, subst, ⊎_elim, arith, get_or-set_other, get_or-set_same}
 use borrow.Author.Differences.{ints}
-use lib.Signed.{lt_z}
 use Rattle.std.proofs.lemmas.Bool.{cases_eq}
 use Rattle.soft.specs.Whole.{short_of}
 use Rattle.captures.specs.declared.edit.Edit.{Edit}

@@ -1,5 +1,5 @@
 -- What saving and loading promise, from the laws of the stored form. Assumes nothing.
-use Rattle.std.proofs.Common.{◌≡◌, ℕ, zero, suc, ◌-◌, ◌<◌, ◌≤◌, Bool, true, false, ◌&&◌, ◌||◌, eqb, ltb, leb, List, [], ◌∷◌, ◌++◌, length, get_or, take, drop, ℤ, pos, nat_abs, Some, None, Ok, Err, Result, sym, refl, ap, ◌∙◌, subst, arith, take_at}
+use Rattle.std.proofs.Common.{◌≡◌, ℕ, zero, suc, ◌-◌, true, false, ◌&&◌, ◌||◌, eqb, ltb, leb, List, [], ◌∷◌, ◌++◌, length, take, drop, ℤ, nat_abs, Some, None, Ok, Err, Result, sym, refl, ap, ◌∙◌, arith, take_at}
 use native.Mathlib.Nat.{sub-zero}
 use Rattle.std.proofs.lemmas.Bool.{and_parts, leb-true, le-leb, lt-ltb, le-ltb, eq-eqb, ne_eqb}
 use Rattle.polar.specs.declared.refusal.Refusal.{Refusal}
@@ -7,8 +7,7 @@ use Rattle.polar.specs.Words.{trues}
 use Rattle.polar.specs.Refusals.{refused_if, refused_unless}
 use Rattle.polar.specs.declared.refusal.Refusal.TheVariants.{Length, Marks, Range, Output, ItemCount}
 use Rattle.polar.proofs.Dues.{if_passes, unless_passes}
-use Rattle.storage.specs.Contents.{Content, content_of, all_small, Sound}
-use Rattle.storage.specs.Stored.{stored}
+use Rattle.storage.specs.Contents.{Content, all_small, Sound}
 use Rattle.storage.specs.Reading.{outcome}
 use Rattle.storage.specs.Calls.{store_due, Stores, load_due}
 use Rattle.captures.specs.Tops.{WithinTop}

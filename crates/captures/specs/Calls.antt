@@ -1,13 +1,13 @@
 -- What each call on a capture does: one relation for each, between what the capture holds before and after. Assumes nothing.
-use Rattle.std.specs.Prelude.{◌≡◌, ℕ, suc, ◌+◌, ◌-◌, ◌*◌, ◌≤◌, Bool, true, not, ◌&&◌, List, ◌++◌, map, length, drop, ℤ, pos, negsuc, neg_ℤ, Some, None, Ok, Option, Result, ◌==◌, is_nan, nat_le, nat_lt, slice_index_or, slice_set, unsigned_abs, Float}
+use Rattle.std.specs.Prelude.{◌≡◌, ℕ, suc, ◌-◌, ◌*◌, Bool, true, not, ◌&&◌, List, ◌++◌, map, length, drop, ℤ, pos, negsuc, neg_ℤ, Some, None, Ok, Option, Result, ◌==◌, is_nan, nat_le, nat_lt, slice_index_or, slice_set, unsigned_abs, Float}
 use Rattle.std.specs.Option.{unwrap_or}
 use Rattle.polar.specs.declared.refusal.Refusal.{Refusal}
 use Rattle.polar.specs.declared.refusal.Refusal.TheVariants.{Data, Place, Range, Output, ItemCount}
 use Rattle.polar.specs.Refusals.{Outcome, refused_if, refused_unless}
 use Rattle.polar.specs.Words.{trues}
 use Rattle.polar.specs.Bytes.{all_bits, bits}
-use Rattle.levels.specs.Level.{level_of, count_of, top_exponent}
-use Rattle.levels.specs.Rows.{export_due, import_due, RowExported}
+use Rattle.levels.specs.Level.{count_of, top_exponent}
+use Rattle.levels.specs.Rows.{import_due, RowExported}
 use Rattle.captures.specs.declared.edit.Edit.{Edit}
 use Rattle.captures.specs.declared.edit.Edit.TheVariants.{Erase, Count, Level, Weaken}
 use Rattle.storage.specs.Stored.{stored}

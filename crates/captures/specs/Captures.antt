@@ -1,5 +1,5 @@
 -- What a capture holds, how it is made, and how far it is from a word. Assumes nothing.
-use Rattle.std.specs.Prelude.{ℕ, suc, ◌+◌, Bool, true, false, cond, not, ◌&&◌, List, [], ◌∷◌, map, ℤ, pos, neg_ℤ, Some, None, Option, int_lt}
+use Rattle.std.specs.Prelude.{ℕ, suc, ◌+◌, Bool, cond, List, [], ◌∷◌, map, ℤ, pos, neg_ℤ, Some, None, Option, int_lt}
 use Rattle.std.specs.Option.{option_map}
 use Rattle.soft.specs.Whole.{short_of}
 use Rattle.polar.specs.Codewords.{codeword}

@@ -1,5 +1,5 @@
 -- What the calls on captures promise over all words and captures. Assumes nothing.
-use Rattle.std.specs.Prelude.{◌≡◌, ℕ, ◌+◌, ◌≤◌, Bool, true, false, List, take, ℤ, pos, IfOk, Ok, Result, OnOk, int_lt, slice_index_or, Float}
+use Rattle.std.specs.Prelude.{◌≡◌, ℕ, ◌+◌, ◌≤◌, Bool, true, List, take, ℤ, pos, IfOk, Ok, Result, OnOk, int_lt, slice_index_or, Float}
 use Rattle.polar.specs.declared.refusal.Refusal.{Refusal}
 use Rattle.captures.specs.declared.edit.Edit.{Edit}
 use Rattle.captures.specs.declared.edit.Edit.TheVariants.{Erase, Count, Level, Weaken}

@@ -1,12 +1,11 @@
 -- The loops over a list, and what reading one promises. Assumes nothing.
-use Rattle.std.proofs.Common.{◌≡◌, ℕ, zero, suc, ◌+◌, ◌*◌, ◌<◌, ◌≤◌, Bool, true, false, cond, not, ◌&&◌, T, leb, List, [], ◌∷◌, ◌++◌, length, get_or, take, drop, is_some, IfOk, Some, None, Ok, Err, Option, Result, sym, refl, ap, ◌∙◌, subst, mul-one, arith}
+use Rattle.std.proofs.Common.{◌≡◌, ℕ, suc, ◌+◌, ◌*◌, ◌<◌, ◌≤◌, Bool, true, false, cond, not, ◌&&◌, T, leb, List, [], ◌∷◌, ◌++◌, length, get_or, take, drop, is_some, IfOk, Some, None, Ok, Err, Option, Result, sym, refl, ap, ◌∙◌, subst, mul-one, arith}
 use mathlib.Core.Bool.{and_assoc}
 use Rattle.std.specs.Option.{option_map}
 use Rattle.std.proofs.lemmas.List.{drop_more, drop_all}
 use Rattle.std.proofs.lemmas.Bool.{and_parts, leb-true}
 use Rattle.polar.specs.declared.refusal.Refusal.TheVariants.{WorkingRoom, NotTaken}
 use Rattle.soft.specs.Kind.{Kind, limit}
-use Rattle.polar.specs.Shape.{balanced}
 use Rattle.polar.specs.Words.{trues}
 use Rattle.polar.specs.Bytes.{bit, bits, bytes}
 use Rattle.polar.specs.Marks.{weight, spread, Codeword}

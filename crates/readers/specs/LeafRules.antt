@@ -1,10 +1,10 @@
 -- The leaf reader keeps the rules. Assumes nothing.
-use Rattle.std.specs.Prelude.{◌≡◌, ℕ, ◌*◌, ◌<◌, ◌≤◌, Bool, true, false, cond, ◌&&◌, T, List, [], ◌∷◌, length, ◌==◌, slice_index_or, slice_set, refl}
-use Rattle.std.proofs.Common.{sym, ap, subst, ◌∙◌, zero-le, arith, mul-zero}
+use Rattle.std.specs.Prelude.{◌≡◌, ℕ, ◌*◌, ◌<◌, ◌≤◌, Bool, true, false, ◌&&◌, T, List, [], ◌∷◌, length, ◌==◌, slice_index_or, slice_set, refl}
+use Rattle.std.proofs.Common.{sym, ap, subst, zero-le, arith, mul-zero}
 use Rattle.std.proofs.lemmas.Bool.{eqb-true, false≢true}
 use Rattle.soft.specs.Kind.{Kind, Rules, limit}
-use Rattle.polar.specs.Shape.{Shape, leaf}
-use Rattle.polar.specs.Marks.{Clear, Codeword, weight}
+use Rattle.polar.specs.Shape.{leaf}
+use Rattle.polar.specs.Marks.{Codeword, weight}
 use Rattle.polar.specs.Codewords.{tree_of}
 use Rattle.polar.proofs.Shapes.{balanced_one}
 use Rattle.readers.specs.Readings.{Posed, Near, ReaderRules, total}

@@ -1,5 +1,5 @@
 -- The split layer: what the reader below does not take is read by halves. Assumes nothing.
-use Rattle.std.specs.Prelude.{ℕ, ◌+◌, ◌*◌, max, Bool, true, cond, List, [], ◌∷◌, ◌++◌, length, take, drop}
+use Rattle.std.specs.Prelude.{ℕ, ◌+◌, ◌*◌, max, Bool, true, cond, List, [], ◌∷◌, take, drop}
 use Rattle.soft.specs.Kind.{Kind}
 use Rattle.polar.specs.Shape.{Shape, leaf, node, leaves}
 use Rattle.polar.specs.Words.{merge}

@@ -1,19 +1,18 @@
 -- The split keeps the rules of a reader, if the reader below does. Assumes nothing.
-use Rattle.std.specs.Prelude.{◌≡◌, ℕ, ◌+◌, ◌-◌, ◌*◌, ◌/◌, ◌^◌, ◌<◌, ◌≤◌, Bool, true, false, cond, List, [], ◌∷◌, length, take, drop, refl}
+use Rattle.std.specs.Prelude.{◌≡◌, ℕ, ◌+◌, ◌-◌, ◌*◌, ◌/◌, ◌^◌, ◌<◌, ◌≤◌, Bool, true, List, [], ◌∷◌, length, take, drop, refl}
 use Rattle.std.proofs.Common.{sym, ap, subst, ◌∙◌, arith, mul_assoc, mul-le-mul_left, pow-add}
 use Rattle.std.proofs.lemmas.List.{length-take-le, length-drop}
 use Rattle.std.proofs.ByRecursion.{All-take, All-drop}
 use Rattle.std.proofs.lemmas.Bool.{cond_both}
 use Rattle.soft.specs.Kind.{Kind, Rules, limit}
-use Rattle.polar.specs.Shape.{Shape, leaf, node, leaves, balanced}
+use Rattle.polar.specs.Shape.{Shape, node, leaves, balanced}
 use Rattle.polar.specs.Words.{plus}
 use Rattle.polar.specs.Labels.{join}
-use Rattle.polar.specs.Marks.{Codeword, lesser, weight}
-use Rattle.polar.specs.Codewords.{tree_of}
+use Rattle.polar.specs.Marks.{Codeword, weight}
 use Rattle.polar.proofs.Shapes.{balanced_one, balanced_node, leaves_balanced, left_heavy_balanced, halves}
 use Rattle.polar.proofs.Distance.{lesser_left, lesser_right}
 use Rattle.polar.proofs.Parts.{parts_join, left_codeword, right_codeword, join_codeword, same_codeword, left_part, right_part}
-use Rattle.readers.specs.Readings.{Reading, ReaderRules, Posed, Near, total}
+use Rattle.readers.specs.Readings.{Reading, ReaderRules, Posed, total}
 use Rattle.readers.specs.SplitReading.{left_values, right_values, split_answer, split_reading}
 use Rattle.readers.specs.Node.{few_turns}
 use Rattle.readers.specs.Totals.{total_join, total_compared, total_joined}

@@ -1,16 +1,16 @@
 -- One level of reading by halves. Assumes nothing.
-use Rattle.std.specs.Prelude.{◌≡◌, ℕ, ◌+◌, ◌-◌, ◌*◌, ◌/◌, ◌^◌, ◌≤◌, max, Bool, true, false, cond, T, List, [], ◌∷◌, length, take, drop, refl}
+use Rattle.std.specs.Prelude.{◌≡◌, ℕ, ◌+◌, ◌-◌, ◌*◌, ◌/◌, ◌^◌, ◌≤◌, max, Bool, true, false, T, List, [], ◌∷◌, length, take, drop, refl}
 use Rattle.std.proofs.Common.{sym, ap, ◌∙◌, arith, mul-le-mul_right}
 use Rattle.std.proofs.lemmas.List.{length-drop, length-take-le}
 use Rattle.std.proofs.ByRecursion.{All-take, All-drop}
 use Rattle.std.proofs.lemmas.Bool.{both_ways, cond-true, cond-false}
 use Rattle.soft.specs.Kind.{Kind, Rules}
-use Rattle.polar.specs.Shape.{Shape, leaf, node, leaves, balanced}
+use Rattle.polar.specs.Shape.{Shape, leaf, node, balanced}
 use Rattle.polar.specs.Labels.{join}
-use Rattle.polar.proofs.Shapes.{balanced_leaf, balanced_one, balanced_node, leaves_balanced, halves}
+use Rattle.polar.proofs.Shapes.{balanced_one, balanced_node, leaves_balanced, halves}
 use Rattle.polar.proofs.Merges.{length_merge}
-use Rattle.readers.specs.Readings.{Reading, ReaderRules, Posed, Ready, capped, most_places}
-use Rattle.readers.specs.SplitReading.{split_answer, split_reading, split_places, left_values, right_values, own_places}
+use Rattle.readers.specs.Readings.{Reading, ReaderRules, Posed, Ready}
+use Rattle.readers.specs.SplitReading.{split_answer, split_reading, left_values, right_values, own_places}
 use Rattle.readers.specs.Halves.{Halving}
 use Rattle.readers.specs.Node.{turns_most, few_turns, right_short}
 use Rattle.readers.specs.Rows.{all_merge, length_joins, all_joins}

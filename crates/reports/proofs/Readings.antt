@@ -1,5 +1,5 @@
 -- What a reading by counts into the longest row gives. Assumes nothing.
-use Rattle.std.proofs.Common.{◌≡◌, ℕ, ◌-◌, ◌≤◌, Bool, List, length, take, nat_abs, IfOk, None, Ok, Err, Option, Result, sym, ap, ◌∙◌, subst, length-take-le}
+use Rattle.std.proofs.Common.{◌≡◌, ℕ, ◌-◌, ◌≤◌, Bool, List, length, take, nat_abs, IfOk, None, Ok, Err, Result, sym, ap, ◌∙◌, length-take-le}
 use native.Mathlib.Nat.{sub-zero}
 use Rattle.std.proofs.lemmas.Bool.{eq-eqb, le-leb}
 use Rattle.polar.specs.declared.refusal.Refusal.{Refusal}

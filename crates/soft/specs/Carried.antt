@@ -1,5 +1,4 @@
 -- One kind carried over to another sort of value. Assumes nothing.
-use Rattle.std.specs.Prelude.{ℕ, Bool}
 use Rattle.soft.specs.Kind.{Kind, Score}
 
 -- the values of A, read as values of a kind on B and written back

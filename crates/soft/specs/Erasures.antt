@@ -1,5 +1,5 @@
 -- The erasures: a bit that was received, or nothing. Assumes nothing.
-use Rattle.std.specs.Prelude.{ℕ, ◌^◌, Bool, true, false, cond, ℤ, pos, neg_ℤ}
+use Rattle.std.specs.Prelude.{ℕ, ◌^◌, Bool, true, false, cond, pos, neg_ℤ}
 use Rattle.soft.specs.Kind.{Kind, Score}
 use Rattle.soft.specs.declared.erasure.Erasure.{Erasure}
 use Rattle.soft.specs.declared.erasure.Erasure.TheVariants.{Zero, One, Unknown}

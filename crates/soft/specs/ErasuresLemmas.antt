@@ -3,7 +3,7 @@ use Rattle.std.specs.Prelude.{◌≡◌, ℕ, ◌+◌, ◌*◌, ◌^◌, ◌<◌
 use Rattle.std.proofs.Common.{arith, pow-add, pow_mono}
 use Rattle.std.proofs.lemmas.Int.{ints}
 use Rattle.polar.specs.Words.{xor}
-use Rattle.soft.specs.Kind.{Rules, Fair, AllFair}
+use Rattle.soft.specs.Kind.{Rules, AllFair}
 use Rattle.soft.specs.Erasures.{moved, summed, agreed, erasure_decided, erasure_shortfall, erasure_kind, erasure_score}
 use Rattle.soft.specs.declared.erasure.Erasure.{Erasure}
 

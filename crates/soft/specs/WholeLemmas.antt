@@ -3,7 +3,7 @@ use Rattle.std.specs.Prelude.{◌≡◌, ℕ, ◌+◌, ◌*◌, ◌^◌, ◌<◌
 use Rattle.std.proofs.Common.{arith, leb→le, le→leb, pow-add}
 use Rattle.std.proofs.lemmas.Int.{ints}
 use Rattle.polar.specs.Words.{xor}
-use Rattle.soft.specs.Kind.{Rules, Fair, AllFair}
+use Rattle.soft.specs.Kind.{Rules, AllFair}
 use Rattle.soft.specs.Whole.{min_sum, short_of, whole_kind, whole_score}
 
 -- the rules at one limit `most`, or at that and its double

@@ -1,4 +1,4 @@
-use Rattle.std.proofs.Common.{◌≡◌, ℕ, ◌-◌, List, length, take, replicate, nat_abs, Some, None, sym, refl, ap, ◌∙◌, subst, rules}
+use Rattle.std.proofs.Common.{◌≡◌, ℕ, List, length, take, replicate, nat_abs, Some, None, sym, refl, ap, ◌∙◌, subst, rules}
 use native.Mathlib.Nat.{sub-zero}
 use Rattle.std.proofs.lemmas.Bool.{le-leb}
 use Rattle.polar.specs.Bytes.{bytes}

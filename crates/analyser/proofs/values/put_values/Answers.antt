@@ -1,4 +1,4 @@
-use Rattle.std.proofs.Common.{◌≡◌, [], ◌∷◌, ◌++◌, map, get_or, take, ℤ, pos, sym, refl, ap, ◌∙◌, ap₂, arith, w16, SFits, to_z, of_z, rules}
+use Rattle.std.proofs.Common.{◌≡◌, [], ◌∷◌, ◌++◌, map, get_or, pos, sym, ap, ◌∙◌, ap₂, arith, w16, SFits, rules}
 use Rattle.std.proofs.lemmas.List.{take_all, take_more_set, map_more}
 use Rattle.std.proofs.lemmas.Int.{to_z-of_z}
 use Rattle.analyser.proofs.values.put_values.Goals as goal

@@ -1,4 +1,4 @@
-use Rattle.std.proofs.Common.{◌≡◌, ◌-◌, ◌++◌, length, take, drop, replicate, ap, ◌∙◌}
+use Rattle.std.proofs.Common.{◌≡◌, ◌-◌, ◌++◌, take, drop, replicate, ap, ◌∙◌}
 use Rattle.polar.specs.Words.{trues}
 use Rattle.polar.specs.Bytes.{bits}
 use Rattle.polar.specs.Codewords.{codeword}

@@ -1,4 +1,4 @@
-use Rattle.std.proofs.Common.{◌≡◌, ◌+◌, not, ◌&&◌, length, drop, is_some, sym, ap, ◌∙◌}
+use Rattle.std.proofs.Common.{◌+◌, not, ◌&&◌, drop, is_some, sym, ap, ◌∙◌}
 use mathlib.Core.Bool.{and-true}
 use Rattle.std.proofs.lemmas.List.{drop_all}
 use Rattle.readers.specs.Blocks.{first_unfit}

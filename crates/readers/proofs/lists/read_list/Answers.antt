@@ -1,4 +1,4 @@
-use Rattle.std.proofs.Common.{◌≡◌, length, sym, ap, ◌∙◌, arith, rules}
+use Rattle.std.proofs.Common.{length, sym, ap, ◌∙◌, arith, rules}
 use Rattle.polar.specs.Plans.{marks_of}
 use Rattle.readers.proofs.Listing.{pile_facts, posed_list, near_taken_out}
 use Rattle.readers.proofs.lists.read_list.Goals as goal

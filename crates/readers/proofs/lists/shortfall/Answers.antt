@@ -1,4 +1,4 @@
-use Rattle.std.proofs.Common.{◌≡◌, length, sym, ◌∙◌, arith}
+use Rattle.std.proofs.Common.{sym, arith}
 use Rattle.polar.proofs.PlanFacts.{sized}
 use Rattle.readers.proofs.Listing.{all_fit_from}
 use Rattle.readers.proofs.lists.shortfall.Goals as goal

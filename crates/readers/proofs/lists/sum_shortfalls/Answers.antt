@@ -1,5 +1,4 @@
-use Rattle.std.proofs.Common.{◌<◌, T, length, sym, ap, ◌∙◌, arith}
-use Rattle.std.proofs.lemmas.List.{drop_all}
+use Rattle.std.proofs.Common.{T, arith}
 use Rattle.readers.specs.Rows.{all_read}
 use Rattle.readers.proofs.Listing.{total_more, total_none}
 use Rattle.readers.proofs.lists.sum_shortfalls.Goals as goal

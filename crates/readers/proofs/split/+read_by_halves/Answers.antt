@@ -1,4 +1,4 @@
-use Rattle.std.proofs.Common.{◌≡◌, ℕ, ◌+◌, ◌-◌, ◌/◌, ◌≤◌, Bool, false, List, length, sym, ap, ◌∙◌, arith}
+use Rattle.std.proofs.Common.{◌≡◌, ℕ, ◌+◌, ◌/◌, ◌≤◌, Bool, false, List, length, sym, ap, ◌∙◌, arith}
 use Rattle.readers.specs.Readings.{Posed}
 use Rattle.readers.specs.SplitReading.{right_values}
 use Rattle.readers.specs.Rows.{length_front, take_front, written_tail, joined_rows}

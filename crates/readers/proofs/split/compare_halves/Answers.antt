@@ -1,4 +1,4 @@
-use Rattle.std.proofs.Common.{◌≡◌, sym, ◌∙◌, arith}
+use Rattle.std.proofs.Common.{◌∙◌, arith}
 use Rattle.std.proofs.ByRecursion.{All-take, All-drop}
 use Rattle.readers.proofs.split.compare_halves.Goals as goal
 

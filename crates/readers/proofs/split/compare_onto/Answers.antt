@@ -1,4 +1,4 @@
-use Rattle.std.proofs.Common.{◌≡◌, ◌<◌, T, length, set, sym, ap, ◌∙◌, arith, take_all}
+use Rattle.std.proofs.Common.{◌<◌, T, length, set, sym, ap, ◌∙◌, arith, take_all}
 use Rattle.polar.specs.Words.{merge}
 use Rattle.polar.proofs.Merges.{merge_nil}
 use Rattle.readers.specs.Rows.{all_read, merge_step, merge_read}

@@ -1,5 +1,4 @@
-use Rattle.std.proofs.Common.{ℕ, ◌+◌, ◌%◌, [], ◌∷◌, length, vec_len, vec_capacity, Vec, sym, ap, subst, arith}
-use Rattle.std.specs.declared.alloc.Global.{Global}
+use Rattle.std.proofs.Common.{length, sym, ap, subst, arith}
 use Rattle.reports.specs.Text.{Put, Room}
 use Rattle.reports.proofs.Growing.{digits_more, one_digit, put_one, put_digit, room_left}
 use Rattle.reports.proofs.text.+put_decimal.Goals as goal

@@ -1,16 +1,14 @@
-use Rattle.std.proofs.Common.{◌≡◌, ◌<◌, ◌≤◌, true, length, get_or, set, ℤ, pos, nat_abs, None, vec_items, sym, refl, ap, ◌∙◌, subst, arith, w16, SFits, to_z, of_z, rules}
-use borrow.Author.Differences.{ints}
+use Rattle.std.proofs.Common.{◌≡◌, ◌<◌, ◌≤◌, true, length, get_or, set, pos, nat_abs, None, vec_items, sym, refl, ap, ◌∙◌, subst, arith, w16, SFits, to_z, of_z, rules}
 use Rattle.std.proofs.lemmas.List.{get_or_read}
 use Rattle.std.proofs.lemmas.Int.{to_z-of_z}
 use Rattle.std.proofs.lemmas.Bool.{lt-ltb}
-use Rattle.polar.specs.declared.refusal.Refusal.TheVariants.{Place, Range}
+use Rattle.polar.specs.declared.refusal.Refusal.TheVariants.{Range}
 use Rattle.polar.proofs.Dues.{unless_none}
 use Rattle.captures.specs.Tops.{top_count}
-use Rattle.captures.specs.Captures.{Captured, with_counts}
+use Rattle.captures.specs.Captures.{with_counts}
 use Rattle.captures.specs.Calls.{allowed, count_after, edit_due, edited_at}
 use Rattle.captures.specs.Promises.{Charged, KeepsSign}
 use Rattle.captures.specs.Views.{captured}
-use Rattle.captures.proofs.Counts.{within_set}
 use Rattle.captures.proofs.Shortfalls.{charged, unchanged, kept_sign, weakened_sign}
 use Rattle.captures.proofs.capture.Capture.edit.Goals as goal
 use Rattle.captures.proofs.capture.Capture.edit.Goals.{In-Ok, After-index}

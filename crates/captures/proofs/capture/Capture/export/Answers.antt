@@ -1,4 +1,4 @@
-use Rattle.std.proofs.Common.{◌≡◌, sym, ap, ◌∙◌, subst, rules}
+use Rattle.std.proofs.Common.{sym, rules}
 use Rattle.levels.specs.Level.{exponent_of}
 use Rattle.captures.specs.Tops.{top_count}
 use Rattle.captures.specs.Calls.{Exported}

@@ -1,4 +1,4 @@
-use Rattle.std.proofs.Common.{◌≡◌, ◌++◌, length, take, drop, vec_items, sym, ap, ◌∙◌, subst, take_at}
+use Rattle.std.proofs.Common.{◌≡◌, vec_items, sym, ◌∙◌, subst, take_at}
 use Rattle.std.specs.Vec.{with_items}
 use Rattle.levels.specs.Level.{exponent_of}
 use Rattle.levels.specs.Rows.{RowImported}

@@ -1,4 +1,4 @@
-use Rattle.std.proofs.Common.{◌≡◌, ◌-◌, length, take, Ok, sym, refl, ap, ◌∙◌, subst, rules}
+use Rattle.std.proofs.Common.{◌≡◌, ◌-◌, take, Ok, sym, ap, ◌∙◌, subst}
 use Rattle.captures.specs.Tops.{top_count, WithinTop}
 use Rattle.captures.specs.Captures.{Captured, capture_of, content_in}
 use Rattle.captures.specs.Calls.{saved_bytes}

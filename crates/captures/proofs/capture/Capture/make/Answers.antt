@@ -1,10 +1,7 @@
-use Rattle.std.proofs.Common.{◌≡◌, ℕ, ◌-◌, ◌≤◌, false, ltb, map, length, take, drop, None, Option, sym, refl, ap, ◌∙◌, subst, arith}
+use Rattle.std.proofs.Common.{◌≡◌, ℕ, ◌-◌, ◌≤◌, false, ltb, map, length, take, sym, refl, ap, ◌∙◌, subst, arith}
 use native.Mathlib.Nat.{sub-zero}
 use lib.ListN.{length-map}
 use Rattle.std.proofs.lemmas.Bool.{le-ltb}
-use Rattle.polar.specs.declared.refusal.Refusal.{Refusal}
-use Rattle.polar.specs.declared.refusal.Refusal.TheVariants.{Range, Output}
-use Rattle.polar.specs.Refusals.{refused_if, refused_unless}
 use Rattle.polar.specs.Bytes.{bits, bytes}
 use Rattle.polar.specs.Codewords.{codeword}
 use Rattle.polar.specs.Plans.{marks_of, encode_due}

@@ -1,4 +1,4 @@
-use Rattle.std.proofs.Common.{◌≡◌, true, false, [], ◌∷◌, ◌++◌, map, pos, vec_items, sym, ap, ◌∙◌}
+use Rattle.std.proofs.Common.{◌≡◌, true, false, [], ◌∷◌, ◌++◌, map, pos, vec_items, ap, ◌∙◌}
 use Rattle.polar.specs.Labels.{label}
 use Rattle.polar.specs.Plans.{marks_of}
 use Rattle.polar.specs.Codewords.{codeword}

@@ -1,4 +1,4 @@
-use Rattle.std.proofs.Common.{◌≡◌, length, vec_items, sym, ap, ◌∙◌, subst, arith}
+use Rattle.std.proofs.Common.{vec_items, sym, ◌∙◌, subst}
 use Rattle.polar.specs.Plans.{marks_of}
 use Rattle.polar.proofs.PlanFacts.{sized}
 use Rattle.storage.specs.Contents.{content_of, Sound}

@@ -1,4 +1,4 @@
-use Rattle.std.proofs.Common.{◌≡◌, length, set, ap, ◌∙◌, arith}
+use Rattle.std.proofs.Common.{◌≡◌, length, set, ap, ◌∙◌}
 use Rattle.std.proofs.lemmas.Bool.{eqb-true}
 use Rattle.readers.specs.LeafRules.{stored_active, stored_frozen}
 use Rattle.readers.proofs.leaf.LeafReader.read.Goals as goal

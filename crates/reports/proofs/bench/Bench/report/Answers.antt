@@ -1,5 +1,4 @@
-use Rattle.std.proofs.Common.{◌≡◌, ℕ, ◌≤◌, length, take, sym, refl, subst, arith}
-use Rattle.polar.specs.Words.{trues}
+use Rattle.std.proofs.Common.{◌≡◌, ℕ, ◌≤◌, length, take, refl, subst, arith}
 use Rattle.polar.specs.Bytes.{bytes}
 use Rattle.polar.proofs.PlanFacts.{sized}
 use Rattle.polar.proofs.Sums.{trues_bound}

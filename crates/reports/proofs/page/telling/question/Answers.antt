@@ -1,7 +1,7 @@
-use Rattle.std.proofs.Common.{◌≡◌, ℕ, ◌-◌, Bool, List, length, take, replicate, Ok, sym, ap, ◌∙◌, subst}
+use Rattle.std.proofs.Common.{◌≡◌, ◌-◌, take, replicate, sym, ap, ◌∙◌}
 use Rattle.polar.specs.Bytes.{bits, bytes}
 use Rattle.polar.specs.Codewords.{codeword}
-use Rattle.polar.specs.Plans.{marks_of, Encoded}
+use Rattle.polar.specs.Plans.{marks_of}
 use Rattle.polar.proofs.Codes.{bits_bytes}
 use Rattle.polar.proofs.Dues.{some_due}
 use Rattle.polar.proofs.PlanFacts.{sized}
