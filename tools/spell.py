@@ -18,12 +18,18 @@ FRESH = {
     "getD-joins": "get_or_joins",
     "getD-merge-past": "get_or_merge_past",
 }
+# variables, which no line declares
+BOUND = set(
+    """
+    active-due all-labels all-marks best-is bit-is bit-places counts-len counts-long fresh-data fresh-front is-label kept-data kept-front
+    leaf-label leaf-labels leaves-k leaves-m marks-long not-less open-list out-places paired-due range-due rest-is right-bit room-due
+    same-l same-r size-b size-x size-y soft-places
+    """.split()
+)
 # by crate: names that stand for another thing elsewhere
 LOCAL = {
-    "storage": {"count-of": "coded_count"},
+    "storage": {"count-of": "coded_count", "count_of": "coded_count"},
     "examples": {"count-of": "count_from"},
-    "reports": {"count-of": "coded_count"},
-    "captures": {"count-of": "coded_count"},
 }
 WORD = r"[^\s(){}\[\],;.λ→∀]+"
 TOKEN = re.compile(r"[^\s(){}\[\],;.λ→∀·=|↦×`]+")
@@ -60,7 +66,15 @@ def foreign(text):
 
 def renamed(text, names, local):
     keep = foreign(text)
-    return TOKEN.sub(lambda m: local.get(m[0]) or (spelled(m[0]) if m[0] in names and m[0] not in keep else m[0]), text)
+
+    def new(m):
+        if m[0] in local:
+            return local[m[0]]
+        # a variable is no field, and the checker makes fields of such names
+        is_field = m[0] in BOUND and text[m.start() - 1 : m.start()] == "."
+        return spelled(m[0]) if m[0] in names and m[0] not in keep and not is_field else m[0]
+
+    return TOKEN.sub(new, text)
 
 
 def ghost_parts(text, change):
@@ -89,7 +103,7 @@ def ghost_parts(text, change):
 
 def main():
     antt = sorted(f for part in ("specs", "proofs") for f in glob.glob(f"crates/*/{part}/**/*.antt", recursive=True))
-    names = declared(antt)
+    names = declared(antt) | BOUND
     for path in antt + sorted(glob.glob("crates/*/src/**/*.rt", recursive=True)):
         text = open(path, encoding="utf-8").read()
         local = LOCAL.get(path.split("/")[1], {})

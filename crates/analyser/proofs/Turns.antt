@@ -62,7 +62,7 @@ module _ (ms : List Bool) (d : ℕ) (is : d ≡ plan_weight ms) (least : LeastWe
   passed i all fails j before active =
       ⊎_elim
       (λ less. all j less active)
-      (λ not-less.
+      (λ not_less.
       let here : j ≡ i = omega arith in
       let size : leaves (tree_of ms) ≡ length ms = leaves_balanced (length ms) (omega (arith, active_within ms j active)) in
       let below : d ≤ leaf_weight ms j = least.below j (omega (arith, active_within ms j active)) active in

@@ -20,7 +20,7 @@ leaf_weight ms i = 2 ^ slice_index (turns (tree_of ms)) i
 -- the first active leaf that weighs as much as the plan; every active leaf before it weighs more
 pub record FirstLightest (ms : List Bool) (i : ℕ) : Type 0 where
   pub within : i < length ms
-  pub active : get_or ms i false ≡ true
+  pub active : slice_index_or ms i false ≡ true
   pub lightest : leaf_weight ms i ≡ plan_weight ms
   pub first : (j : ℕ) → j < i → slice_index_or ms j false ≡ true → plan_weight ms < leaf_weight ms j
 

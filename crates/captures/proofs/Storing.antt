@@ -42,12 +42,12 @@ sound_due top c room sound =
     let active : ltb 0 (trues c.marks_row) ≡ true = lt-ltb 0 (trues c.marks_row) sound.active in
     let small : (all_small top c.count_row && leb c.scale_exponent 6) ≡ true = rw (sound.small, le-leb c.scale_exponent 6 sound.scaled) in
     let paired : eqb (length c.count_row) n ≡ true = eq-eqb (length c.count_row) n sound.paired in
-    let room-due = refused_if (ltb room (length (saved_bytes top c))) Output None in
-    let range-due = refused_unless (all_small top c.count_row && leb c.scale_exponent 6) Range room-due in
-    let paired-due = refused_unless (eqb (length c.count_row) n) ItemCount range-due in
-    let active-due = refused_unless (ltb 0 (trues c.marks_row)) Marks paired-due in
-    if_passes (eqb n 0 || ltb 4096 n) Length active-due size ∙ unless_passes (ltb 0 (trues c.marks_row)) Marks paired-due active
-    ∙ unless_passes (eqb (length c.count_row) n) ItemCount range-due paired ∙ unless_passes (all_small top c.count_row && leb c.scale_exponent 6) Range room-due small
+    let room_due = refused_if (ltb room (length (saved_bytes top c))) Output None in
+    let range_due = refused_unless (all_small top c.count_row && leb c.scale_exponent 6) Range room_due in
+    let paired_due = refused_unless (eqb (length c.count_row) n) ItemCount range_due in
+    let active_due = refused_unless (ltb 0 (trues c.marks_row)) Marks paired_due in
+    if_passes (eqb n 0 || ltb 4096 n) Length active_due size ∙ unless_passes (ltb 0 (trues c.marks_row)) Marks paired_due active
+    ∙ unless_passes (eqb (length c.count_row) n) ItemCount range_due paired ∙ unless_passes (all_small top c.count_row && leb c.scale_exponent 6) Range room_due small
 
 same_content : (a b : Captured) → content_in a ≡ content_in b → a ≡ b
 same_content a b e =

@@ -50,11 +50,11 @@ module _ (s : Shape) (ms : List Bool) (heavy : LeftHeavy s) (long : length ms �
       let c = zeros n in
       let c' = label s b in
       let size : length c ≡ n = length-replicate n false in
-      let size-b : length b ≡ n = length-set (zeros n) l.at true ∙ size in
-      let size' : length c' ≡ n = length_label s b size-b in
+      let size_b : length b ≡ n = length-set (zeros n) l.at true ∙ size in
+      let size' : length c' ≡ n = length_label s b size_b in
       let flat : unlabel s c ≡ c = ap (unlabel s) (sym (label_zeros s)) ∙ unlabel_label s c size in
       let code : Codeword s ms c = (size, subst (Clear ms) (sym flat) (clear_zeros ms n)) in
-      let code' : Codeword s ms c' = (size', subst (Clear ms) (sym (unlabel_label s b size-b)) (clear_single ms n l.at l.active)) in
+      let code' : Codeword s ms c' = (size', subst (Clear ms) (sym (unlabel_label s b size_b)) (clear_single ms n l.at l.active)) in
       let ones : trues (plus c c') ≡ weight s ms = ap trues (zeros_plus n c' size') ∙ single_weight s l.at heavy l.within ∙ sym l.least in
       let pos = let a = active_at ms some in (weight_bound s ms a.0 (omega (arith, a.1)) a.2).0 in
       let apart : c ≡ c' → ⊥ = λ same.

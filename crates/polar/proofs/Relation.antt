@@ -42,12 +42,12 @@ labelled_label =
     let size_r : length rs ≡ k = length-drop m bs ∙ omega arith in
     let x = label (balanced m) ls in
     let y = label (balanced k) rs in
-    let leaves-m : leaves (balanced m) ≡ m = leaves_balanced m (omega arith) in
-    let leaves-k : leaves (balanced k) ≡ k = leaves_balanced k (omega arith) in
-    let size-x : length x ≡ m = length_label (balanced m) ls (size_l ∙ sym leaves-m) ∙ leaves-m in
-    let size-y : length y ≡ k = length_label (balanced k) rs (size_r ∙ sym leaves-k) ∙ leaves-k in
+    let leaves_m : leaves (balanced m) ≡ m = leaves_balanced m (omega arith) in
+    let leaves_k : leaves (balanced k) ≡ k = leaves_balanced k (omega arith) in
+    let size_x : length x ≡ m = length_label (balanced m) ls (size_l ∙ sym leaves_m) ∙ leaves_m in
+    let size_y : length y ≡ k = length_label (balanced k) rs (size_r ∙ sym leaves_k) ∙ leaves_k in
     let both = at_node (half_cases n) (left ls size_l) (right rs size_r) (added_plus x y (omega arith) (omega arith)) in
-    let is : label (balanced n) bs ≡ join x y = ap (λ s. label s bs) (balanced_node n h) ∙ rw leaves-m in
+    let is : label (balanced n) bs ≡ join x y = ap (λ s. label s bs) (balanced_node n h) ∙ rw leaves_m in
     let sum : m + k ≡ n = halves_sum n h in
     let whole : ls ++ rs ≡ bs = take-append-drop m bs in
     rw is (subst (λ i. Labelled i bs (join x y)) sum (subst (λ z. Labelled (m + k) z (join x y)) whole both)))
@@ -122,8 +122,8 @@ parity_label (node l r) w bs h =
     let n = leaves l in
     let x = label l (take n bs) in
     let y = label r (drop n bs) in
-    let size-x : length x ≡ n = length_label l (take n bs) (length_left l r bs h) in
-    let size-y : length y ≡ leaves r = length_label r (drop n bs) (length_right l r bs h) in
+    let size_x : length x ≡ n = length_label l (take n bs) (length_left l r bs h) in
+    let size_y : length y ≡ leaves r = length_label r (drop n bs) (length_right l r bs h) in
     let some : 0 < n = leaves_pos l in
     parity_append (plus x y) y ∙ ap (λ z. xor z (parity y)) (parity_plus x y (omega (arith, w.0)))
     ∙ back (parity x) (parity y) ∙ parity_label l w.1 (take n bs) (length_left l r bs h) ∙ get_or-take n bs 0 false some

@@ -30,9 +30,9 @@ list_due kind unfit ms values later =
 -- A pile of readers for a block of these marks, with this many soft and bit places lent: it takes the marks, it tells no more
 -- places than can be had, and beside those there is one of each sort for each symbol.
 abbrev pub pile_due : {K : Type 0} → Reading K → List Bool → ℕ → ℕ → Option Refusal → Option Refusal
-pile_due reading ms soft-places bit-places later =
+pile_due reading ms soft_places bit_places later =
     refused_unless (reading.taking ms) NotTaken
-    (refused_unless (nat_le (reading.soft_need (length ms)) most_places && nat_le (reading.bit_need (length ms)) most_places && nat_le (reading.soft_need (length ms) + length ms) soft-places && nat_le (reading.bit_need (length ms) + length ms) bit-places) WorkingRoom later)
+    (refused_unless (nat_le (reading.soft_need (length ms)) most_places && nat_le (reading.bit_need (length ms)) most_places && nat_le (reading.soft_need (length ms) + length ms) soft_places && nat_le (reading.bit_need (length ms) + length ms) bit_places) WorkingRoom later)
 
 abbrev pub output_due : List Bool → ℕ → Option Refusal
 output_due ms room = refused_if (nat_lt room (trues ms)) Output None

@@ -6,10 +6,10 @@ use Rattle.readers.specs.Readings.{Reading, Posed, most_places}
 use Rattle.readers.specs.SplitReading.{own_places}
 
 -- a node, and the places of the reader below with those of the split itself
-pub record Halving {K : Type 0} (kind : Kind K) (below : Reading K) (marks : List Bool) (turns : ℕ) (values : List K) (soft-places bit-places out-places : ℕ) : Type 0 where
+pub record Halving {K : Type 0} (kind : Kind K) (below : Reading K) (marks : List Bool) (turns : ℕ) (values : List K) (soft_places bit_places out_places : ℕ) : Type 0 where
   pub posed : Posed kind marks turns values
-  pub out_room : out-places ≡ length marks
-  pub soft_room : below.soft_need (length marks) + own_places (tree_of marks) ≤ soft-places
-  pub bit_room : below.bit_need (length marks) ≤ bit-places
+  pub out_room : out_places ≡ length marks
+  pub soft_room : below.soft_need (length marks) + own_places (tree_of marks) ≤ soft_places
+  pub bit_room : below.bit_need (length marks) ≤ bit_places
   pub soft_told : below.soft_need (length marks) ≤ most_places
   pub bits_told : below.bit_need (length marks) ≤ most_places

@@ -145,12 +145,12 @@ module _ {K : Type 0} (kind : Kind K) (rules : Rules kind) (below : Reading K) (
       -- the near label is the answer, if the children's are
       near_step : answered (n - n / 2) (take h marks) turns lefts ≡ x → answered (n / 2) (drop h marks) (turns + 1) (rights x) ≡ y
           → split_answer kind below (node l r) marks turns values ≡ word
-      near_step same-l same-r =
+      near_step same_l same_r =
           cond_both (below.taking marks) _ _ (λ answer. answer ≡ word)
           (λ taken. taken_near n marks turns values word size posed (subst (λ s. Codeword s marks word) (sym (balanced_node n two)) code) (subst (λ s. total kind turns values word < limit kind turns * weight s marks) (sym (balanced_node n two)) near) taken)
           (λ untaken.
-          ap (λ left. join left (answered (n / 2) (drop h marks) (turns + 1) (rights left))) same-l
-          ∙ ap (join x) same-r ∙ sym (parts_join l r marks long word))
+          ap (λ left. join left (answered (n / 2) (drop h marks) (turns + 1) (rights left))) same_l
+          ∙ ap (join x) same_r ∙ sym (parts_join l r marks long word))
 
   pub split_label : (n : ℕ) → 1 ≤ n → (marks : List Bool) (turns : ℕ) (values : List K) → length marks ≡ n → Posed kind marks turns values → Codeword (balanced n) marks (answered n marks turns values)
   split_label =
@@ -188,15 +188,15 @@ module _ {K : Type 0} (kind : Kind K) (rules : Rules kind) (below : Reading K) (
           let cx = is_x n two marks turns values size posed word code' near' in
           let cy = is_y n two marks turns values size posed word code' near' in
           let pr = posed_r n two marks turns values size posed xl cx.0 in
-          let same-l : answered (n - n / 2) (take cut marks) turns (left_values kind cut values) ≡ xl =
+          let same_l : answered (n - n / 2) (take cut marks) turns (left_values kind cut values) ≡ xl =
           same_codeword bl (take cut marks) _ xl (left_heavy_balanced (n - n / 2) (omega arith)) (fm ∙ sym (size_l n two marks turns values size posed))
           (split_label (n - n / 2) (omega arith) (take cut marks) turns _ fm pl) cx
           (λ some. left (take cut marks) turns _ xl fm pl cx (near_left n two marks turns values size posed word code' near' some)) in
-          let same-r : answered (n / 2) (drop cut marks) (turns + 1) (right_values kind cut values xl) ≡ yr =
+          let same_r : answered (n / 2) (drop cut marks) (turns + 1) (right_values kind cut values xl) ≡ yr =
           same_codeword br (drop cut marks) _ yr (left_heavy_balanced (n / 2) (omega arith)) (bm ∙ sym (size_r n two marks turns values size posed))
           (split_label (n / 2) (omega arith) (drop cut marks) (turns + 1) _ bm pr) cy
           (λ some. right (drop cut marks) (turns + 1) _ yr bm pr cy (near_right n two marks turns values size posed word code' near' some)) in
-          ap (λ s. split_answer kind below s marks turns values) (balanced_node n two) ∙ near_step n two marks turns values size posed word code' near' same-l same-r
+          ap (λ s. split_answer kind below s marks turns values) (balanced_node n two) ∙ near_step n two marks turns values size posed word code' near' same_l same_r
 
   pub split_rules : ReaderRules kind (split_reading kind below)
   split_rules = record {

@@ -129,8 +129,8 @@ module _ {K : Type 0} (kind : Kind K) (rules : Rules kind) (below : Reading K) (
         let posed : Posed kind ms (turns + 1) vs = rw (ism, isv) (posed_right kind rules marks turns values ready.posed two half halved left wide) in
         let size : length ms ≡ n - half = ap length ism ∙ length-drop half marks in
         let own = own_node n two in
-        let rest-is : n - half ≡ n / 2 = omega arith in
-        let mine : own_places (balanced (length ms)) ≡ own_places (balanced (n / 2)) = ap (λ k. own_places (balanced k)) (size ∙ rest-is) in
+        let rest_is : n - half ≡ n / 2 = omega arith in
+        let mine : own_places (balanced (length ms)) ≡ own_places (balanced (n / 2)) = ap (λ k. own_places (balanced k)) (size ∙ rest_is) in
         let softer : below.soft_need (length ms) ≤ below.soft_need n = belows.soft_grows (length ms) n (omega arith) in
         let fewer : below.bit_need (length ms) ≤ below.bit_need n = belows.bits_grow (length ms) n (omega arith) in
         record {

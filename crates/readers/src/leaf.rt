@@ -12,6 +12,7 @@ pub struct Leaf;
 impl<K: Soft> Reader<K> for Leaf {
     ghost reading = { λ _. leaf_reading K.Soft.kind };
 
+    // The leaf reader keeps the rules of a reader.
     ghost rules = { λ _. leaf_rules K.Soft.kind K.Soft.rules };
 
     fn takes(&self, marks: &[bool]) -> bool {

@@ -24,6 +24,7 @@ pub struct Split<R> {
 impl<K: Soft, R: Reader<K>> Reader<K> for Split<R> {
     ghost reading = { λ s. split_reading K.Soft.kind (R.Reader.reading s.below) };
 
+    // The split keeps the rules of a reader, since the reader below does.
     ghost rules = { λ split. split_rules K.Soft.kind K.Soft.rules _ (R.Reader.rules split.below) };
 
     fn takes(&self, _marks: &[bool]) -> bool {

@@ -33,6 +33,6 @@ module _ {W : Type 0} (item : ℕ → W) (score : W → ℤ) (n : ℕ) (w : W) (
       (is ∙ sym there, top_is ∙ scored ∙ ap score (sym there))
 
   pub no_better : int_lt top s ≡ false → (w₀ w' : W) (top' : ℤ) → w₀ ≡ item (best (λ k. score (item k)) n) → w' ≡ w₀ → top' ≡ top → BestNext w' top'
-  no_better less w₀ w' top' best-is is top_is =
+  no_better less w₀ w' top' best_is is top_is =
       let stays : best (λ k. score (item k)) (n + 1) ≡ best (λ k. score (item k)) n = best_suc ∙ cond-false (int_lt top s) _ _ less in
-      (is ∙ best-is ∙ ap item (sym stays), top_is ∙ kept ∙ ap (λ k. score (item k)) (sym stays))
+      (is ∙ best_is ∙ ap item (sym stays), top_is ∙ kept ∙ ap (λ k. score (item k)) (sym stays))

@@ -150,5 +150,5 @@ module _ (ms : List Bool) (some : 1 ≤ length ms) where
       let ds = collect ms bs in
       let long : length bs ≡ length ms = length_unlabel s word code.0 ∙ size in
       let count : length ds ≡ trues ms = length_collect ms bs long in
-      let leaf-labels : spread ms (digits (trues ms) (number_of ds)) ≡ bs = rw (← count, digits_number ds) (spread_collect ms bs long code.1) in
-      (number_of ds, omega (arith, rw count at (number_least ds)), ap (label s) leaf-labels ∙ label_unlabel s word code.0)
+      let leaf_labels : spread ms (digits (trues ms) (number_of ds)) ≡ bs = rw (← count, digits_number ds) (spread_collect ms bs long code.1) in
+      (number_of ds, omega (arith, rw count at (number_least ds)), ap (label s) leaf_labels ∙ label_unlabel s word code.0)

@@ -54,8 +54,8 @@ even_answer kind score turns values =
 -- the label of the one active leaf if it beats the zero label
 abbrev pub single_answer : {K : Type 0} → Score K → List Bool → ℕ → List K → List Bool
 single_answer score ms turns values =
-    let leaf-label = label (tree_of ms) ms in
-    cond (int_lt (word_score score turns values (zero_label ms)) (word_score score turns values leaf-label)) leaf-label (zero_label ms)
+    let leaf_label = label (tree_of ms) ms in
+    cond (int_lt (word_score score turns values (zero_label ms)) (word_score score turns values leaf_label)) leaf_label (zero_label ms)
 
 abbrev pub pattern_answer : {K : Type 0} → Kind K → Score K → Reading K → Pattern → List Bool → ℕ → List K → List Bool
 pattern_answer kind score below Frozen ms turns values = zero_label ms

@@ -37,6 +37,7 @@ impl Exhaustive {
 impl<K: Scored> Reader<K> for Exhaustive {
     ghost reading = { λ s. exhaustive_reading K.Scored.scoring s.threshold };
 
+    // The exhaustive reader keeps the rules of a reader, since scores are fair.
     ghost rules = { λ reader. exhaustive_rules K.Soft.kind K.Scored.scoring K.Scored.fair reader.threshold reader.some };
 
     fn takes(&self, marks: &[bool]) -> bool {

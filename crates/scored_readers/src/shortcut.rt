@@ -21,6 +21,7 @@ pub struct Shortcut<R> {
 impl<K: Scored, R: Reader<K>> Reader<K> for Shortcut<R> {
     ghost reading = { λ s. shortcut_reading K.Soft.kind K.Scored.scoring (R.Reader.reading s.below) };
 
+    // The shortcut keeps the rules of a reader, since the reader below does and scores are fair.
     ghost rules = { λ shortcut. shortcut_rules K.Soft.kind K.Scored.scoring K.Scored.fair _ (R.Reader.rules shortcut.below) };
 
     fn takes(&self, marks: &[bool]) -> bool {

@@ -6,3 +6,4 @@ pub mod Erasures
 pub mod CarriedLemmas
 pub mod WholeLemmas
 pub mod ErasuresLemmas
+pub mod CountsLemmas

@@ -1,11 +1,8 @@
 // Counts: whole numbers, of which TOP is sure of bit 0 and -TOP of bit 1.
-ghost use Rattle.std.specs.Prelude.{◌≡◌, refl};
-ghost use Rattle.soft.specs.Counts.{count_kind, count_score, top_count, held, counted};
+ghost use Rattle.std.specs.Prelude.{◌≡◌};
 ghost use Rattle.polar.specs.declared.refusal.Refusal.TheVariants.{Range};
-ghost use Rattle.std.proofs.Common.{arith};
-ghost use Rattle.soft.specs.Whole.{whole_kind, whole_score};
-ghost use Rattle.soft.specs.CarriedLemmas.{carried_rules, carried_fair};
-ghost use Rattle.soft.specs.WholeLemmas.{whole_rules, whole_fair};
+ghost use Rattle.soft.specs.Counts.{count_kind, count_score, top_count};
+ghost use Rattle.soft.specs.CountsLemmas.{count_rules, count_fair};
 
 use super::kind::{Listed, Scored, Soft};
 use polar::refusal::Refusal;
@@ -20,7 +17,8 @@ pub struct Count(pub i32);
 impl Soft for Count {
     ghost kind = { count_kind };
 
-    ghost rules = { carried_rules held counted (whole_kind top_count) (λ v r small p. refl) (whole_rules top_count (omega arith) (omega arith)) };
+    // Counts keep the rules of a soft kind.
+    ghost rules = { count_rules };
 
     // Min-sum: the smaller size, negated where just one of the two is below 0.
     fn compare(self, other: Count, _turns: u32) -> Count {
@@ -50,7 +48,8 @@ impl Soft for Count {
 impl Scored for Count {
     ghost scoring = { count_score };
 
-    ghost fair = { carried_fair held counted (whole_kind top_count) whole_score (whole_fair top_count) };
+    // The score of a count is fair.
+    ghost fair = { count_fair };
 
     fn score(self, bit: bool, _turns: u32) -> i32 {
         if bit { -self.0 } else { self.0 }

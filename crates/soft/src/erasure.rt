@@ -20,6 +20,7 @@ const FAR: u32 = 8192;
 impl Soft for Erasure {
     ghost kind = { erasure_kind };
 
+    // Erasures keep the rules of a soft kind.
     ghost rules = { erasure_rules };
 
     // The sum of two known values, else unknown.
@@ -67,6 +68,7 @@ fn turned(v: Erasure, bit: bool) -> Erasure
 impl Scored for Erasure {
     ghost scoring = { erasure_score };
 
+    // The score of an erasure is fair.
     ghost fair = { erasure_fair };
 
     // The limit for the value's own bit, its opposite for the other.

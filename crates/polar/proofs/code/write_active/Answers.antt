@@ -49,7 +49,7 @@ returns c =
     let marks = c.args.marks.now in
     let labels = c.args.labels.now in
     let i = c.loop-i.i in
-    let all-marks = take_all i marks c.loop-i-test.false in
-    let all-labels = take_all i labels (omega arith) in
-    let next : c.loop-i.next ≡ trues marks = c.loop-i.invariant.0 ∙ ap trues all-marks in
-    c.loop-i.invariant.1 ∙ rw (all-marks, all-labels, next)
+    let all_marks = take_all i marks c.loop-i-test.false in
+    let all_labels = take_all i labels (omega arith) in
+    let next : c.loop-i.next ≡ trues marks = c.loop-i.invariant.0 ∙ ap trues all_marks in
+    c.loop-i.invariant.1 ∙ rw (all_marks, all_labels, next)

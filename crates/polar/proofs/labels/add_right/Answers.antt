@@ -16,11 +16,11 @@ loop-i-preserved c =
     -- both places that are read still hold what they held at the start
     let left_bit : get_or c.loop-i.bits i false ≡ get_or bits i false =
     ap (λ b. get_or b i false) c.loop-i.invariant ∙ get_or_merge_past xor bits (take i right) i false (omega arith) in
-    let right-bit : get_or c.loop-i.bits (c.args.mid + i) false ≡ get_or right i false =
+    let right_bit : get_or c.loop-i.bits (c.args.mid + i) false ≡ get_or right i false =
     ap (λ b. get_or b (c.args.mid + i) false) c.loop-i.invariant ∙ get_or_merge_past xor bits (take i right) (c.args.mid + i) false (omega arith)
     ∙ sym (get_or-drop c.args.mid bits i false) in
     let more = merge_more xor bits right i false (omega arith) long in
-    rw (left_bit, right-bit, c.loop-i.invariant) (sym more)
+    rw (left_bit, right_bit, c.loop-i.invariant) (sym more)
 
 pub returns : goal.returns
 returns c =

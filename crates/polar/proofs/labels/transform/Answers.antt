@@ -13,7 +13,7 @@ returns c =
     record {
       value = is;
       labelled = λ some. rw is (labelled_label (length e) some e refl);
-      alone = λ other is-label. labelled_only is-label ∙ sym is;
+      alone = λ other is_label. labelled_only is_label ∙ sym is;
       undone = ap (unlabel (balanced (length e))) is ∙ unlabelled_labelled e;
       parity = ap parity is ∙ parity_labelled e;
     }

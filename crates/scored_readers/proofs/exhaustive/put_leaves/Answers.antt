@@ -32,13 +32,13 @@ module _ (marks labels : List Bool) (n i rest : ℕ) (some : 0 < i) (within : i 
       × (drop (i - 1) (set labels (i - 1) b) ≡ spread (drop (i - 1) marks) (digits (trues (drop (i - 1) marks)) n))
 
   active_more : (rest' : ℕ) (b : Bool) → get_or marks (i - 1) false ≡ true → rest' ≡ rest / 2 → b ≡ eqb (rest % 2) 1 → Written rest' b
-  active_more rest' b is rest-is bit-is =
+  active_more rest' b is rest_is bit_is =
       let k = trues (drop i marks) in
-      let half : rest' ≡ n / 2 ^ suc k = rest-is ∙ ap (λ r. r / 2) before ∙ div-div-eq-div-mul n (2 ^ k) 2 ∙ ap (λ p. n / p) (sym (pow-suc 2 k)) in
-      rw (marks_from true is, labels_from b) (half, rw (bit-is, before, written))
+      let half : rest' ≡ n / 2 ^ suc k = rest_is ∙ ap (λ r. r / 2) before ∙ div-div-eq-div-mul n (2 ^ k) 2 ∙ ap (λ p. n / p) (sym (pow-suc 2 k)) in
+      rw (marks_from true is, labels_from b) (half, rw (bit_is, before, written))
 
   frozen_more : (rest' : ℕ) (b : Bool) → get_or marks (i - 1) false ≡ false → rest' ≡ rest → b ≡ false → Written rest' b
-  frozen_more rest' b is rest-is bit-is = rw (marks_from false is, labels_from b) (rest-is ∙ before, rw (bit-is, written))
+  frozen_more rest' b is rest_is bit_is = rw (marks_from false is, labels_from b) (rest_is ∙ before, rw (bit_is, written))
 
 pub loop-i-preserved : goal.loop-i-preserved
 loop-i-preserved c =

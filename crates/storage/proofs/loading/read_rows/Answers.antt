@@ -84,11 +84,11 @@ returns c =
     let at = goal.at.returns c in
     let n = c.in_ok-length.field-0 in
     let sized = c.in_ok-length.ensures.within in
-    let marks-long = c.marks.auto.marks ∙ front_length n c.args.marks.now (omega (arith, c.requires.0, sized.1)) in
-    let counts-long = c.counts.auto.counts ∙ front_length n c.args.counts.now (omega (arith, c.requires.1, sized.1)) in
+    let marks_long = c.marks.auto.marks ∙ front_length n c.args.marks.now (omega (arith, c.requires.0, sized.1)) in
+    let counts_long = c.counts.auto.counts ∙ front_length n c.args.counts.now (omega (arith, c.requires.1, sized.1)) in
     record {
       fronts = outcome_is top_count _ (first at.In_ok-field) c.in_ok-length.ensures.reads c.in_ok-exponent.ensures.reads (marked at.In_ok-marks) (counted at.In_ok-counts)
           ∙ ends_well tt tt _ _ _ c.in_ok-end.ensures
-          ∙ ap Ok (content_alike _ (sym (take_at c.marks.new.marks _ n marks-long)) (sym (take_at c.counts.new.counts _ n counts-long)));
+          ∙ ap Ok (content_alike _ (sym (take_at c.marks.new.marks _ n marks_long)) (sym (take_at c.counts.new.counts _ n counts_long)));
       sized = sized;
     }
