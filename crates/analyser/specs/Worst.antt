@@ -1,5 +1,5 @@
 -- The call that finds two data words of a plan and the places whose erasures leave their captures equal. Assumes nothing.
-use Rattle.std.specs.Prelude.{◌≡◌, ℕ, suc, ◌^◌, ◌<◌, Bool, true, false, ◌||◌, List, [], ◌∷◌, ◌++◌, map, length, get_or, drop, replicate, None, Option, Result, nat_lt, slice_index, slice_index_or}
+use Rattle.std.specs.Prelude.{◌≡◌, ℕ, suc, ◌^◌, ◌<◌, Bool, true, false, ◌||◌, List, [], ◌∷◌, ◌++◌, map, length, drop, replicate, None, Option, Result, nat_lt, slice_index, slice_index_or}
 use Rattle.polar.specs.declared.refusal.Refusal.{Refusal}
 use Rattle.polar.specs.declared.refusal.Refusal.TheVariants.{Output}
 use Rattle.polar.specs.Refusals.{Outcome, refused_if}
