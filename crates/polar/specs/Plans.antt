@@ -41,12 +41,13 @@ Encoded ms ds before answer after =
     (λ n. (n ≡ length ms) × (after ≡ bytes (codeword ms (bits ds)) ++ drop n before))
     (after ≡ before)
 
--- taking data out of these bits into a buffer of `room` bytes: the number of bits comes first, then the bits
+-- a word of a plan's blocks: the number of bits comes first, then the bits
+abbrev pub word_due : List Bool → List ℕ → Option Refusal → Option Refusal
+word_due ms word later = refused_unless (length word == length ms) ItemCount (refused_unless (all_bits word) Data later)
+
+-- taking data out of these bits into a buffer of `room` bytes: the word comes first
 abbrev pub extract_due : List Bool → List ℕ → ℕ → Option Refusal
-extract_due ms word room =
-    refused_unless (length word == length ms) ItemCount
-    (refused_unless (all_bits word) Data
-    (refused_if (nat_lt room (trues ms)) Output None))
+extract_due ms word room = word_due ms word (refused_if (nat_lt room (trues ms)) Output None)
 
 -- An accepted call answers the number of data and writes them into the buffer's front; the tail stays.
 abbrev pub Extracted : List Bool → List ℕ → List ℕ → Result ℕ Refusal → List ℕ → Type 0

@@ -1,5 +1,5 @@
 -- The refusals by number and place, and the one shape of every call that can be refused. Assumes nothing.
-use Rattle.std.specs.Prelude.{◌≡◌, ℕ, Bool, cond, ◌||◌, Some, None, Ok, Err, Option, Result, ◌==◌, nat_lt}
+use Rattle.std.specs.Prelude.{◌≡◌, ℕ, Bool, cond, ◌||◌, List, [], ◌++◌, Some, None, Ok, Err, codes, decimal, Option, Result, ◌==◌, nat_lt}
 use Rattle.polar.specs.declared.refusal.Refusal.{Refusal}
 use Rattle.polar.specs.declared.refusal.Refusal.TheVariants.{Length, Marks, Data, Place, Range, WorkingRoom, Output, InputEnds, NumberForm, FieldRule, BytesRemain, NotTaken, ItemCount}
 
@@ -33,6 +33,15 @@ place_of (FieldRule place) = Some place
 place_of (BytesRemain place) = Some place
 place_of NotTaken = None
 place_of ItemCount = None
+
+-- the place follows where there is one
+abbrev pub at_place : Option ℕ → List ℕ
+at_place (Some place) = codes " at " ++ decimal place
+at_place None = []
+
+-- how a refusal is printed
+abbrev pub refusal_text : Refusal → List ℕ
+refusal_text e = codes "refused " ++ decimal (number_of e) ++ at_place (place_of e)
 
 -- A call's answer, where `due` is the refusal that its input calls for, if any. It is accepted exactly when none is due,
 -- and `accepted` then holds of what it answers; else it is refused with the one that is due, and `kept` holds.

@@ -107,13 +107,8 @@ pub fn extract(plan: &Plan, word: &[u8], out: &mut [u8]) -> Result<usize, Refusa
     ensures value { Extracted (marks_of plan.now) word.now out.old result out.new }
     ensures returns { IfOk result (λ n. (ds : List Bool) → length ds ≡ trues (marks_of plan.now) → bits word.now ≡ codeword (marks_of plan.now) ds → take n out.new ≡ bytes ds) }
 {
+    plan.check_word(word)?;
     let marks = plan.marks();
-    if word.len() != marks.len() {
-        return Err(Refusal::ItemCount);
-    }
-    if !are_bits(word) {
-        return Err(Refusal::Data);
-    }
     let active = plan.active();
     if out.len() < active {
         return Err(Refusal::Output);

@@ -2,6 +2,8 @@
 ghost use Rattle.std.specs.Prelude.{◌≡◌};
 ghost use Rattle.polar.specs.Refusals.{number_of, place_of};
 
+use std::fmt;
+
 // One variant for each row of docs/REFUSALS.md; those of stored input carry the place of the byte they speak of.
 #[derive(Clone, Copy, PartialEq, Eq, Debug)]
 pub enum Refusal {
@@ -68,3 +70,21 @@ impl Refusal {
         }
     }
 }
+
+// The number, and the place where the refusal has one.
+impl fmt::Display for Refusal {
+    ghost use Rattle.std.specs.Prelude.{Some};
+    ghost use Rattle.polar.specs.Refusals.{refusal_text};
+
+    ghost output = { λ refusal. Some (refusal_text refusal) };
+
+    fn fmt<W: fmt::Write>(&self, f: &mut fmt::Formatter<W>) -> fmt::Result {
+        let number = self.number();
+        match self.place() {
+            Some(place) => write!(f, "refused {number} at {place}"),
+            None => write!(f, "refused {number}"),
+        }
+    }
+}
+
+impl std::error::Error for Refusal {}

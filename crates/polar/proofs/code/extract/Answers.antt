@@ -18,7 +18,7 @@ returns c =
     let rest = drop (trues c.marks-marks.result.now) c.args.out.now in
     let same = c.marks-marks.ensures in
     let labels : c.put_leaf_labels_of.new.labels ≡ unlabel (balanced (length ms)) word =
-    c.put_leaf_labels_of.ensures ∙ ap (λ n. unlabel (balanced n) word) (c.if-word-marks.false ∙ ap length same) in
+    c.put_leaf_labels_of.ensures ∙ ap (λ n. unlabel (balanced n) word) c.in_ok-check_word.ensures.same_len in
     let found : collect c.marks-marks.result.now c.put_leaf_labels_of.new.labels ≡ data_of ms word =
     ap (λ m. collect m c.put_leaf_labels_of.new.labels) same ∙ ap (collect ms) labels in
     let out : c.write_active.new.out ≡ bytes (data_of ms word) ++ rest = c.write_active.ensures ∙ ap (λ w. bytes w ++ rest) found in
