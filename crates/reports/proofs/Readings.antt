@@ -1,5 +1,5 @@
 -- What a reading by counts into the longest row gives. Assumes nothing.
-use Rattle.std.proofs.Common.{◌≡◌, ℕ, ◌-◌, ◌≤◌, Bool, List, length, take, nat_abs, IfOk, None, Ok, Err, Result, sym, ap, ◌∙◌, length-take-le}
+use Rattle.std.proofs.Common.{◌≡◌, ℕ, ◌-◌, ◌≤◌, Bool, List, length, take, nat_abs, IfOk, IsOk, None, Ok, Err, Result, refl, sym, ap, ◌∙◌, length-take-le}
 use native.Mathlib.Nat.{sub-zero}
 use Rattle.std.proofs.lemmas.Bool.{eq-eqb, le-leb}
 use Rattle.polar.specs.declared.refusal.Refusal.{Refusal}
@@ -55,10 +55,10 @@ module _ (reading : Reading Count) (s : Capture) (before : Buffers Count) (room 
       (read.1.0, front_data count_kind reading rules ms (values_of counted (captured s)) before.output after.output k taken posed read.1)
   read_data rules (Err e) after read = tt
 
--- the data read of a capture can be told
+-- the data read of a capture can be told, and the page has their report then
 pub tells_read : (top : ℕ) (c : Captured) (row : List ℕ) (ds : List Bool) (k : ℕ) (before : Page) (answer : Answer) (after : Page) → k ≡ trues c.marks_row → k ≤ length row → take k row ≡ bytes ds
-    → Told top before c (take (k - 0) row) answer after → text_on after ≡ report top c ds
-tells_read top c row ds k before (Ok u) after many room front told = told.1 ∙ ap (λ w. report top c (bits w)) (ap (λ n. take n row) (sub-zero k) ∙ front) ∙ ap (report top c) (bits_bytes ds)
+    → Told top before c (take (k - 0) row) answer after → IsOk answer × (text_on after ≡ report top c ds)
+tells_read top c row ds k before (Ok u) after many room front told = (refl, told.1 ∙ ap (λ w. report top c (bits w)) (ap (λ n. take n row) (sub-zero k) ∙ front) ∙ ap (report top c) (bits_bytes ds))
 tells_read top c row ds k before (Err e) after many room front told =
     let given : take (k - 0) row ≡ bytes ds = ap (λ n. take n row) (sub-zero k) ∙ front in
     let size : length (bytes ds) ≡ k = sym (ap length front) ∙ length-take-le k row room in

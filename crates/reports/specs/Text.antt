@@ -1,7 +1,6 @@
--- Text as bytes, and text that grows at its end. Assumes nothing.
-use Rattle.std.specs.Prelude.{◌≡◌, ℕ, ◌+◌, ◌≤◌, Bool, cond, List, [], ◌∷◌, ◌++◌, map, vec_items, vec_len, vec_capacity, Vec}
+-- Text as bytes. Assumes nothing.
+use Rattle.std.specs.Prelude.{ℕ, Bool, cond, List, [], ◌∷◌, ◌++◌, map}
 use Rattle.std.specs.List.{flat_map}
-use Rattle.std.specs.declared.alloc.Global.{Global}
 
 -- every line ends with a line feed
 abbrev pub line : List ℕ → List ℕ
@@ -16,12 +15,3 @@ digit b = cond b 49 48
 
 abbrev pub digits : List Bool → List ℕ
 digits bs = map digit bs
-
--- n bytes more have room
-abbrev pub Room : Vec ℕ Global → ℕ → Type 0
-Room text n = vec_len text + n ≤ vec_capacity text
-
--- the bytes were put behind what was there
-pub record Put (before : Vec ℕ Global) (bytes : List ℕ) (after : Vec ℕ Global) : Type 0 where
-  pub items : vec_items after ≡ vec_items before ++ bytes
-  pub room : vec_capacity before ≤ vec_capacity after

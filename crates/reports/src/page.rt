@@ -1,15 +1,11 @@
 // The page that a report is written on.
-ghost use Rattle.std.specs.Prelude.{◌≤◌, vec_capacity};
+use crate::text::Text;
 
 mod lines;
 pub mod telling;
 
-// The bytes of the longest report, and some more.
-pub const PAGE_ROOM: usize = 4300;
-
-// A page of text. Room for the longest report is reserved once, so that no later call needs memory.
+// A page with the text of the report that was told last.
 #[derive(Drop)]
 pub struct Page {
-    text: Vec<u8>,
-    ghost room: { 4300 ≤ vec_capacity text },
+    text: Text,
 }

@@ -1,34 +1,96 @@
-// Text that grows at its end within reserved room: numbers, bits and lines.
-ghost use Rattle.std.specs.Prelude.{◌≡◌, ◌+◌, [], ◌∷◌, ◌++◌, length, decimal};
+// Text that grows at its end: bytes, numbers, bits and lines.
+ghost use Rattle.std.specs.Prelude.{◌≡◌, ◌+◌, ◌<◌, ◌≤◌, [], ◌∷◌, ◌++◌, length, decimal, IfOk};
 ghost use Rattle.polar.specs.Bytes.{bit, bits};
-ghost use Rattle.reports.specs.Text.{line, digit, digits, Room, Put};
+ghost use Rattle.reports.specs.Text.{line, digit, digits};
 
-// Adds bytes.
-pub(crate) fn put(text: &mut Vec<u8>, bytes: &[u8])
-    requires { Room text.old (length bytes.now) }
-    ensures { Put text.old bytes.now text.new }
-{
-    let _ = text.extend_from_slice(bytes);
+use itoa::Buffer;
+use std::alloc::{AllocError, Global};
+use std::marker::Model;
+
+// The bytes of the longest report, and some more.
+pub(crate) const PAGE_ROOM: usize = 4300;
+
+// Text in room that is reserved once, so that no later call needs memory. A contract sees its bytes.
+#[derive(Drop)]
+pub struct Text {
+    bytes: Vec<u8>,
 }
 
-// Adds a number in decimal.
-pub(crate) fn put_decimal(text: &mut Vec<u8>, number: usize)
-    requires { Room text.old (length (decimal number)) }
-    ensures { Put text.old (decimal number) text.new }
-{
-    if number >= 10 {
-        put_decimal(text, number / 10);
+impl Model for Text {
+    ghost use Rattle.std.specs.Prelude.{ℕ, ◌≤◌, List, vec_capacity};
+
+    ghost Value = { List ℕ };
+
+    ghost view = { λ t. t.bytes.items };
+
+    ghost invariant = { λ t. 4300 ≤ vec_capacity t.bytes };
+}
+
+impl Text {
+    pub(crate) fn new(heap: Global) -> Result<Text, AllocError>
+        ensures { IfOk result (λ text. text ≡ []) }
+    {
+        let bytes = Vec::with_capacity(heap, PAGE_ROOM)?;
+        Ok(Text { bytes })
     }
-    text.push_reserved(b'0' + (number % 10) as u8);
-}
 
-// Adds bits as the characters 0 and 1.
-pub(crate) fn put_digits(text: &mut Vec<u8>, word: &[u8])
-    requires { Room text.old (length word.now) }
-    ensures { Put text.old (digits (bits word.now)) text.new }
-{
-    for b in word {
-        text.push_reserved(digit_of(*b));
+    pub(crate) fn as_bytes(&self) -> &[u8]
+        ensures { result.now ≡ self.now }
+    {
+        self.bytes.as_slice()
+    }
+
+    pub(crate) fn clear(&mut self)
+        ensures { self.new ≡ [] }
+    {
+        self.bytes.clear();
+    }
+
+    // Adds a byte.
+    fn push(&mut self, byte: u8)
+        requires { length self.old < 4300 }
+        ensures { self.new ≡ self.old ++ byte ∷ [] }
+    {
+        self.bytes.push_reserved(byte);
+    }
+
+    // Adds bytes.
+    pub(crate) fn put(&mut self, bytes: &[u8])
+        requires { length self.old + length bytes.now ≤ 4300 }
+        ensures { self.new ≡ self.old ++ bytes.now }
+    {
+        self.bytes.extend_from_slice(bytes).unwrap();
+    }
+
+    // Adds a number in decimal.
+    pub(crate) fn put_decimal(&mut self, number: usize)
+        requires { length self.old + 20 ≤ 4300 }
+        ensures value { self.new ≡ self.old ++ decimal number }
+        ensures few { length self.new ≤ length self.old + 20 }
+    {
+        let mut buffer = Buffer::new();
+        self.put(buffer.format(number).as_bytes());
+    }
+
+    // Adds bits as the characters 0 and 1.
+    pub(crate) fn put_digits(&mut self, word: &[u8])
+        requires { length self.old + length word.now ≤ 4300 }
+        ensures { self.new ≡ self.old ++ digits (bits word.now) }
+    {
+        for b in word {
+            self.push(digit_of(*b));
+        }
+    }
+
+    // Adds a line that ends in a number.
+    pub(crate) fn put_number_line(&mut self, head: &[u8], number: usize)
+        requires { length self.old + length head.now + 21 ≤ 4300 }
+        ensures value { self.new ≡ self.old ++ line (head.now ++ decimal number) }
+        ensures few { length self.new ≤ length self.old + length head.now + 21 }
+    {
+        self.put(head);
+        self.put_decimal(number);
+        self.put(b"\n");
     }
 }
 
@@ -37,14 +99,4 @@ fn digit_of(b: u8) -> u8
     ensures { result ≡ digit (bit b) }
 {
     if b == 1 { b'1' } else { b'0' }
-}
-
-// Adds a line that ends in a number.
-pub(crate) fn put_number_line(text: &mut Vec<u8>, head: &[u8], number: usize)
-    requires { Room text.old (length head.now + 21) }
-    ensures { Put text.old (line (head.now ++ decimal number)) text.new }
-{
-    put(text, head);
-    put_decimal(text, number);
-    put(text, b"\n");
 }

@@ -78,18 +78,17 @@ impl Bench {
     {
         let mut out = [0u8; MAX_LENGTH];
         let reader = bench_readers();
-        match read_front(
+        let active = read_front(
             &reader,
             &self.capture,
             self.soft.as_mut_slice(),
             self.bits.as_mut_slice(),
             &mut out,
-        ) {
-            Ok(active) => {
-                let _ = self.page.tell_capture(&self.capture, &out[0..active]);
-            }
-            Err(_) => unreachable(),
-        }
+        )
+        .unwrap();
+        self.page
+            .tell_capture(&self.capture, &out[0..active])
+            .unwrap();
     }
 }
 
@@ -97,11 +96,10 @@ impl Bench {
 fn bench_readers() -> Split<Shortcut<Exhaustive>>
     ensures { result.below.below.threshold ≡ 4 }
 {
-    match Exhaustive::new(4) {
-        Ok(exhaustive) => Split {
-            below: Shortcut { below: exhaustive },
+    Split {
+        below: Shortcut {
+            below: Exhaustive::new(4).unwrap(),
         },
-        Err(_) => unreachable(),
     }
 }
 

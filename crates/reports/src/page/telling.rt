@@ -1,15 +1,15 @@
 // Writing a report on a page.
-ghost use Rattle.std.specs.Prelude.{◌≡◌, ◌≤◌, [], length, IfOk, OnOk};
+ghost use Rattle.std.specs.Prelude.{◌≡◌, ◌+◌, ◌≤◌, [], ◌++◌, length, IfOk, OnOk};
 ghost use Rattle.polar.specs.Bytes.{bits};
 ghost use Rattle.polar.specs.Refusals.{Outcome};
 ghost use Rattle.captures.specs.Tops.{top_count};
 ghost use Rattle.captures.specs.Views.{captured};
-ghost use Rattle.reports.specs.Text.{Room, Put};
 ghost use Rattle.reports.specs.Report.{report, refusal_report};
 ghost use Rattle.reports.specs.Pages.{text_on, tell_due, Asked, Told};
 
+use crate::page::Page;
 use crate::page::lines::{put_against, put_data, put_plan, put_refusal, put_shortfall};
-use crate::page::{PAGE_ROOM, Page};
+use crate::text::Text;
 use analyser::bounds::bound_of;
 use captures::capture::Capture;
 use polar::code::encode;
@@ -22,7 +22,7 @@ impl Page {
     pub fn new(heap: Global) -> Result<Page, AllocError>
         ensures { IfOk result (λ page. text_on page ≡ []) }
     {
-        let text = Vec::with_capacity(heap, PAGE_ROOM)?;
+        let text = Text::new(heap)?;
         Ok(Page { text })
     }
 }
@@ -32,7 +32,7 @@ impl Page {
     pub fn text(&self) -> &[u8]
         ensures { result.now ≡ text_on self.now }
     {
-        self.text.as_slice()
+        self.text.as_bytes()
     }
 
     // Replaces the page by the line of a refusal.
@@ -71,16 +71,16 @@ fn question(capture: &Capture, data: &[u8]) -> Result<(u32, Option<usize>), Refu
 
 // The lines of a capture.
 fn put_report(
-    text: &mut Vec<u8>,
+    text: &mut Text,
     capture: &Capture,
     data: &[u8],
     shortfall: u32,
     against: Option<usize>,
 )
-    requires room { Room text.old 4300 }
+    requires empty { text.old ≡ [] }
     requires short { length «data».now ≤ 4096 }
     requires asked { Asked top_count (captured capture.now) (bits «data».now) shortfall against }
-    ensures { Put text.old (report top_count (captured capture.now) (bits «data».now)) text.new }
+    ensures { text.new ≡ report top_count (captured capture.now) (bits «data».now) }
 {
     put_plan(text, capture.plan());
     put_data(text, data);
