@@ -1,9 +1,9 @@
 // A kept capture read back and compared with a fresh block, and the least that could mislead a reader.
-use crate::show::{Bits, Places, Refused};
+use crate::reading::room;
+use crate::show::{Bits, Spaced};
 use analyser::comparing::compare_readings;
 use analyser::reading::read_counts;
 use analyser::worst::worst_pair;
-use anyhow::anyhow;
 use captures::capture::Capture;
 use polar::plan::Plan;
 use readers::leaf::Leaf;
@@ -24,14 +24,12 @@ const FRESH: [Count; 6] = [
 ];
 
 pub(crate) fn show_assurance(rt: &HostRuntime, capture: &Capture) -> anyhow::Result<()> {
-    let Ok(exhaustive) = Exhaustive::new(4) else {
-        return Err(anyhow!("no exhaustive reader"));
-    };
+    let exhaustive = Exhaustive::new(4)?;
     let pile = Split {
         below: Shortcut { below: exhaustive },
     };
     let leaves = Split { below: Leaf };
-    let (soft_need, bits_need) = room(&pile, capture.plan());
+    let (soft_need, bits_need) = room::<Count, _>(&pile, capture.plan());
     let mut soft = Vec::new(rt.alloc());
     soft.resize(soft_need, Count(0))?;
     let mut counts = Vec::new(rt.alloc());
@@ -50,18 +48,9 @@ pub(crate) fn show_assurance(rt: &HostRuntime, capture: &Capture) -> anyhow::Res
     ) {
         Ok(true) => println!(rt; "  a fresh block has the same data")?,
         Ok(false) => println!(rt; "  a fresh block has other data")?,
-        Err(refusal) => println!(rt; "  {}", Refused(refusal))?,
+        Err(refusal) => println!(rt; "  {refusal}")?,
     }
     show_limit(rt, capture.plan())
-}
-
-// The soft and bit places that a reading of a block asks for.
-fn room<R: Reader<Count>>(pile: &R, plan: &Plan) -> (usize, usize) {
-    let len = plan.length();
-    (
-        pile.soft_places(len).saturating_add(len),
-        pile.bit_places(len).saturating_add(len),
-    )
 }
 
 fn show_kept<R: Reader<Count>>(
@@ -75,7 +64,7 @@ fn show_kept<R: Reader<Count>>(
     match read_counts(pile, capture, counts, bits, &mut data) {
         Ok(k) if k <= 6 => println!(rt; "  read as   {}", Bits(&data[0..k]))?,
         Ok(_) => {}
-        Err(refusal) => println!(rt; "  {}", Refused(refusal))?,
+        Err(refusal) => println!(rt; "  {refusal}")?,
     }
     Ok(())
 }
@@ -94,9 +83,9 @@ fn show_limit(rt: &HostRuntime, plan: &Plan) -> anyhow::Result<()> {
                 Bits(&one),
                 Bits(&other)
             )?;
-            println!(rt; "  once places {} are erased", Places(&places))?;
+            println!(rt; "  once places {} are erased", Spaced(&places))?;
         }
-        Err(refusal) => println!(rt; "  {}", Refused(refusal))?,
+        Err(refusal) => println!(rt; "  {refusal}")?,
     }
     Ok(())
 }

@@ -1,6 +1,5 @@
 // The steps of the tour.
-use crate::show::{Bits, Marks, Refused};
-use anyhow::anyhow;
+use crate::show::Bits;
 use polar::code::{encode, extract};
 use polar::frame::Node;
 use polar::labels::{transform, untransform};
@@ -16,7 +15,7 @@ pub(crate) fn show_block(
     data: &[u8],
 ) -> anyhow::Result<()> {
     show(rt, "plan", plan.fill(marks.len(), marks))?;
-    println!(rt; "  marks     {}", Marks(plan.marks()))?;
+    println!(rt; "  marks     {}", Bits(plan.marks()))?;
     let (length, active, weight) = (plan.length(), plan.active(), plan.weight());
     println!(rt; "  length {length}, active {active}, weight {weight}")?;
     show_walk(rt, plan)?;
@@ -26,16 +25,14 @@ pub(crate) fn show_block(
 // Prints a refusal, should there be one.
 fn show<T: Drop>(rt: &HostRuntime, step: &str, answer: Result<T, Refusal>) -> anyhow::Result<()> {
     if let Err(refusal) = answer {
-        println!(rt; "  {step}: {}", Refused(refusal))?;
+        println!(rt; "  {step}: {refusal}")?;
     }
     Ok(())
 }
 
 // Every node in reading order, with the weights of the leaves.
 fn show_walk(rt: &HostRuntime, plan: &Plan) -> anyhow::Result<()> {
-    let Ok(mut walk) = Walk::new(plan.length()) else {
-        return Err(anyhow!("no walk"));
-    };
+    let mut walk = Walk::new(plan.length())?;
     show_node(rt, plan.marks(), walk.node())?;
     while let Some(node) = walk.advance() {
         show_node(rt, plan.marks(), node)?;
@@ -64,11 +61,11 @@ fn show_codeword(rt: &HostRuntime, plan: &Plan, data: &[u8]) -> anyhow::Result<(
     println!(rt; "  data      {}", Bits(data))?;
     match encode(plan, data, &mut word) {
         Ok(n) => println!(rt; "  codeword  {}", Bits(&word[0..n]))?,
-        Err(refusal) => println!(rt; "  {}", Refused(refusal))?,
+        Err(refusal) => println!(rt; "  {refusal}")?,
     }
     match extract(plan, &word[0..plan.length()], &mut back) {
         Ok(k) => println!(rt; "  taken out {}", Bits(&back[0..k]))?,
-        Err(refusal) => println!(rt; "  {}", Refused(refusal))?,
+        Err(refusal) => println!(rt; "  {refusal}")?,
     }
     Ok(())
 }
@@ -76,11 +73,11 @@ fn show_codeword(rt: &HostRuntime, plan: &Plan, data: &[u8]) -> anyhow::Result<(
 // Leaves labelled 0 1 0 0 1 1 at length 6.
 pub(crate) fn show_leaves(rt: &HostRuntime) -> anyhow::Result<()> {
     let mut labels = [false, true, false, false, true, true];
-    println!(rt; "  leaves    {}", Marks(&labels))?;
+    println!(rt; "  leaves    {}", Bits(&labels))?;
     transform(&mut labels);
-    println!(rt; "  root      {}", Marks(&labels))?;
+    println!(rt; "  root      {}", Bits(&labels))?;
     untransform(&mut labels);
-    println!(rt; "  and back  {}", Marks(&labels))?;
+    println!(rt; "  and back  {}", Bits(&labels))?;
     Ok(())
 }
 
@@ -101,6 +98,6 @@ pub(crate) fn show_refusals(rt: &HostRuntime, plan: &mut Plan) -> anyhow::Result
         "a codeword bit 2",
         extract(plan, &[0, 1, 1, 0, 1, 2], &mut out),
     )?;
-    println!(rt; "  still     {}", Marks(plan.marks()))?;
+    println!(rt; "  still     {}", Bits(plan.marks()))?;
     Ok(())
 }

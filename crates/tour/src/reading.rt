@@ -1,6 +1,5 @@
 // Soft values of the 6-symbol block, read through piles of readers.
-use crate::show::{Bits, Counts, Refused};
-use anyhow::anyhow;
+use crate::show::{Bits, Spaced};
 use polar::plan::Plan;
 use readers::leaf::Leaf;
 use readers::lists::{read_list, shortfall};
@@ -10,7 +9,7 @@ use scored_readers::exhaustive::Exhaustive;
 use scored_readers::shortcut::Shortcut;
 use soft::count::Count;
 use soft::erasure::Erasure;
-use soft::kind::Listed;
+use soft::kind::{Listed, Soft};
 
 // The codeword of the data 11 on this plan.
 const WORD: [u8; 6] = [0, 1, 1, 0, 1, 1];
@@ -33,13 +32,10 @@ pub(crate) fn show_readings(rt: &HostRuntime, plan: &Plan) -> anyhow::Result<()>
 
 // A block of counts through three piles.
 fn show_counts(rt: &HostRuntime, plan: &Plan, counts: &[i16; 6]) -> anyhow::Result<()> {
-    let mut values = [Count(0); 6];
-    put_values(counts, &mut values);
-    println!(rt; "  counts    {}", Counts(counts))?;
+    let values = counts.map(|count| Count(i32::from(count)));
+    println!(rt; "  counts    {}", Spaced(counts))?;
     show_shortfall(rt, plan, &values)?;
-    let Ok(exhaustive) = Exhaustive::new(4) else {
-        return Err(anyhow!("no exhaustive reader"));
-    };
+    let exhaustive = Exhaustive::new(4)?;
     read_through(rt, "split over leaf", &Split { below: Leaf }, plan, &values)?;
     read_through(
         rt,
@@ -58,19 +54,21 @@ fn show_counts(rt: &HostRuntime, plan: &Plan, counts: &[i16; 6]) -> anyhow::Resu
     )
 }
 
-// The counts as soft values.
-fn put_values(counts: &[i16], values: &mut [Count]) {
-    for (v, c) in values.iter_mut().zip(counts) {
-        *v = Count(i32::from(*c));
-    }
-}
-
 fn show_shortfall<K: Listed>(rt: &HostRuntime, plan: &Plan, values: &[K]) -> anyhow::Result<()> {
     match shortfall(plan, values, &WORD) {
         Ok(sum) => println!(rt; "    shortfall {sum} from {}", Bits(&WORD))?,
-        Err(refusal) => println!(rt; "    {}", Refused(refusal))?,
+        Err(refusal) => println!(rt; "    {refusal}")?,
     }
     Ok(())
+}
+
+// The soft and bit places that a reading of a block asks for.
+pub(crate) fn room<K: Soft, R: Reader<K>>(pile: &R, plan: &Plan) -> (usize, usize) {
+    let len = plan.length();
+    (
+        pile.soft_places(len).saturating_add(len),
+        pile.bit_places(len).saturating_add(len),
+    )
 }
 
 // Reads the values through a pile, in buffers of the size that it tells.
@@ -84,9 +82,7 @@ fn read_through<K: Listed, R: Reader<K>>(
     let [blank, ..] = values else {
         return Ok(());
     };
-    let len = plan.length();
-    let soft_need = pile.soft_places(len).saturating_add(len);
-    let bits_need = pile.bit_places(len).saturating_add(len);
+    let (soft_need, bits_need) = room(pile, plan);
     let mut soft = Vec::new(rt.alloc());
     soft.resize(soft_need, *blank)?;
     let mut bits = Vec::new(rt.alloc());
@@ -95,7 +91,7 @@ fn read_through<K: Listed, R: Reader<K>>(
     match read_list(pile, plan, values, &mut soft, &mut bits, &mut data) {
         Ok(k) if k <= 6 => println!(rt; "    {name}: {}", Bits(&data[0..k]))?,
         Ok(_) => {}
-        Err(refusal) => println!(rt; "    {name}: {}", Refused(refusal))?,
+        Err(refusal) => println!(rt; "    {name}: {refusal}")?,
     }
     Ok(())
 }
