@@ -1,6 +1,7 @@
 // Readers over lists of counts and of erasures.
 use polar::plan::Plan;
 use polar::refusal::Refusal;
+use polar::rows::write_front;
 use readers::leaf::Leaf;
 use readers::lists::{read_list, shortfall};
 use readers::reader::Reader;
@@ -17,7 +18,7 @@ fn data_of<R: Reader<Count>>(pile: &R, plan: &Plan, counts: &[i16]) -> Result<u3
     if counts.len() > 8 {
         return Err(Refusal::ItemCount);
     }
-    put_values(counts, &mut values);
+    write_front(&mut values, counts.iter().copied().map(Count::from));
     let mut soft = [Count(0); 256];
     let mut bits = [false; 256];
     let mut data = [7u8; 8];
@@ -34,12 +35,6 @@ fn data_of<R: Reader<Count>>(pile: &R, plan: &Plan, counts: &[i16]) -> Result<u3
         number = number.wrapping_mul(2).wrapping_add(u32::from(*d));
     }
     Ok(number)
-}
-
-fn put_values(counts: &[i16], values: &mut [Count]) {
-    for (v, c) in values.iter_mut().zip(counts) {
-        *v = Count(i32::from(*c));
-    }
 }
 
 #[test]

@@ -26,6 +26,15 @@ fn refusals_have_numbers_and_places(rt: HostRuntime) {
 }
 
 #[test]
+fn refusals_print(rt: HostRuntime) -> Result<(), Fail> {
+    let placed = format!(in rt.alloc(); "{}", Refusal::FieldRule(1))?;
+    assert_eq!(rt; placed.as_str(), "refused 10 at 1");
+    let plain = format!(in rt.alloc(); "{}", Refusal::Range)?;
+    assert_eq!(rt; plain.as_str(), "refused 5");
+    Ok(())
+}
+
+#[test]
 fn walks_refuse_other_lengths(rt: HostRuntime) {
     assert!(rt; matches!(Walk::new(0), Err(Refusal::Length)));
     assert!(rt; matches!(Walk::new(4097), Err(Refusal::Length)));
@@ -35,9 +44,7 @@ fn walks_refuse_other_lengths(rt: HostRuntime) {
 // The nodes after the root of three symbols, and none for ever after.
 #[test]
 fn walk_over_three_symbols(rt: HostRuntime) -> Result<(), Fail> {
-    let Ok(mut walk) = Walk::new(3) else {
-        return Err(Fail::new("refused"));
-    };
+    let mut walk = Walk::new(3)?;
     assert_eq!(rt; walk.node(), node(3, 0, 0));
     assert_eq!(rt; walk.advance(), Some(node(2, 0, 0)));
     assert_eq!(rt; walk.advance(), Some(node(1, 0, 0)));
@@ -46,6 +53,15 @@ fn walk_over_three_symbols(rt: HostRuntime) -> Result<(), Fail> {
     assert_eq!(rt; walk.advance(), None);
     assert_eq!(rt; walk.advance(), None);
     assert_eq!(rt; walk.node(), node(1, 2, 1));
+    Ok(())
+}
+
+// The same nodes by the walk's iterator.
+#[test]
+fn walk_as_an_iterator(rt: HostRuntime) -> Result<(), Fail> {
+    let mut walk = Walk::new(3)?;
+    assert_eq!(rt; walk.next(), Some(node(2, 0, 0)));
+    assert_eq!(rt; walk.count(), 3);
     Ok(())
 }
 
@@ -64,9 +80,7 @@ fn walks_meet_every_node(rt: HostRuntime) {
 }
 
 fn moves(len: usize) -> Option<(u32, Node)> {
-    let Ok(mut walk) = Walk::new(len) else {
-        return None;
-    };
+    let mut walk = Walk::new(len).ok()?;
     let mut count = 0u32;
     for _ in 0..10_000 {
         if walk.advance().is_some() {
