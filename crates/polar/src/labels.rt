@@ -60,6 +60,7 @@ fn pass<const INVERSE: bool>(bits: &mut [bool])
 
 // The same for up to eight leaves, where the transform undoes itself. It is done without recursion, which is where most of the
 // time would go.
+#[inline(always)]
 fn pass_eight(bits: &mut [bool])
     requires { length bits.old ≤ 8 }
     ensures forth { bits.new ≡ label (balanced (length bits.old)) bits.old }
