@@ -4,6 +4,8 @@ ghost use Rattle.std.specs.Prelude.{◌≡◌, ◌≤◌, ◌++◌, length, drop
 ghost use Rattle.polar.specs.Words.{trues};
 ghost use Rattle.polar.specs.Bytes.{all_bits, bits, bytes};
 
+use crate::rows::{write_all, write_front};
+
 // Whether each byte is 0 or 1.
 pub fn are_bits(src: &[u8]) -> bool
     ensures { result ≡ all_bits src.now }
@@ -23,9 +25,7 @@ pub(crate) fn put_bits(src: &[u8], word: &mut [bool])
     requires { length word.old ≡ length src.now }
     ensures { word.new ≡ bits src.now }
 {
-    for (i, b) in src.iter().enumerate() {
-        word[i] = *b == 1;
-    }
+    write_all(word, src.iter().copied().map(|b| b == 1));
 }
 
 // Writes a word's bits into the front of `out`.
@@ -33,7 +33,5 @@ pub(crate) fn write_bytes(word: &[bool], out: &mut [u8])
     requires { length word.now ≤ length out.old }
     ensures { out.new ≡ bytes word.now ++ drop (length word.now) out.old }
 {
-    for (i, b) in word.iter().enumerate() {
-        out[i] = u8::from(*b);
-    }
+    write_front(out, word.iter().map(|b| u8::from(*b)));
 }

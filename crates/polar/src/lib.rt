@@ -7,6 +7,7 @@ pub mod frame;
 pub mod labels;
 pub mod plan;
 pub mod refusal;
+pub mod rows;
 pub mod tree;
 pub mod walk;
 mod weight;
