@@ -1,6 +1,7 @@
 -- The laws of marks, and of data at the active leaves. Assumes nothing.
-use Rattle.std.proofs.Common.{◌≡◌, ℕ, zero, suc, ◌+◌, ◌<◌, Bool, true, false, cond, List, [], ◌∷◌, ◌++◌, length, get_or, take, drop, sym, refl, ap, ◌∙◌, add-one, arith, take-append-drop}
-use Rattle.std.proofs.lemmas.List.{take_more, drop_more}
+use Rattle.std.proofs.Common.{◌≡◌, ℕ, zero, suc, ◌+◌, ◌<◌, Bool, true, false, cond, List, [], ◌∷◌, ◌++◌, length, get_or, take, drop, sym, refl, ap, ◌∙◌, add-one, arith, take-append-drop, Some, None, Option, Bor, Iter}
+use Rattle.std.specs.Option.{MatchOption}
+use Rattle.std.proofs.lemmas.List.{take_more, drop_more, nil_from_length}
 use Rattle.polar.specs.Words.{xor, plus, trues}
 use Rattle.polar.specs.Bytes.{bit, bits}
 use Rattle.polar.proofs.Sums.{trues_append}
@@ -74,17 +75,12 @@ module _ (marks : List Bool) (i : ℕ) (within : i < length marks) where
   rest : (m : Bool) → get_or marks i false ≡ m → drop i marks ≡ m ∷ drop (i + 1) marks
   rest m is = drop_more marks i false within ∙ ap (λ b. b ∷ drop (i + 1) marks) is
 
-  pub trues_at_active : get_or marks i false ≡ true → trues (drop i marks) ≡ suc (trues (drop (i + 1) marks))
-  trues_at_active is = ap trues (rest true is)
-
-  pub trues_at_frozen : get_or marks i false ≡ false → trues (drop i marks) ≡ trues (drop (i + 1) marks)
-  trues_at_frozen is = ap trues (rest false is)
-
-  pub spread_at_active : (ds : List ℕ) (k : ℕ) → k < length ds → get_or marks i false ≡ true
-      → spread (drop i marks) (bits (drop k ds)) ≡ bit (get_or ds k 0) ∷ spread (drop (i + 1) marks) (bits (drop (k + 1) ds))
-  spread_at_active ds k h is =
-      ap (λ ms. spread ms (bits (drop k ds))) (rest true is)
-      ∙ ap (λ s. spread (true ∷ drop (i + 1) marks) (bits s)) (drop_more ds k 0 h)
+  -- an active leaf takes the next of the data, 0 where there are none
+  pub spread_at_active : (o : Option (Bor ℕ)) (s t : Iter ℕ) (label : Bool) → get_or marks i false ≡ true
+      → MatchOption o ((length s.rest.now ≡ 0) × (t ≡ s)) (λ x. s.rest.now ≡ x.now ∷ t.rest.now) → MatchOption o (label ≡ false) (λ x. label ≡ bit x.now)
+      → label ∷ spread (drop (i + 1) marks) (bits t.rest.now) ≡ spread (drop i marks) (bits s.rest.now)
+  spread_at_active None s t label is none first = rw (rest true is, first, none.1, nil_from_length s.rest.now none.0) refl
+  spread_at_active (Some x) s t label is some first = rw (rest true is, some, first) refl
 
   pub spread_at_frozen : (ds : List Bool) → get_or marks i false ≡ false → spread (drop i marks) ds ≡ false ∷ spread (drop (i + 1) marks) ds
   spread_at_frozen ds is = ap (λ ms. spread ms ds) (rest false is)

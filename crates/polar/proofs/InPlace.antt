@@ -1,5 +1,5 @@
 -- What in-place work on the two parts of a slice leaves, and what it makes of a balanced tree's label. Assumes nothing.
-use Rattle.std.proofs.Common.{◌≡◌, ℕ, ◌-◌, ◌/◌, ◌<◌, ◌≤◌, Bool, false, List, [], ◌∷◌, ◌++◌, length, get_or, take, drop, sym, ap, ◌∙◌, ⊎_elim, append-nil, arith, length-drop, length-take-le, take_all, take_at, drop_at}
+use Rattle.std.proofs.Common.{◌≡◌, ℕ, ◌-◌, ◌/◌, ◌<◌, ◌≤◌, Bool, true, false, cond, List, [], ◌∷◌, ◌++◌, length, get_or, take, drop, sym, ap, ◌∙◌, ⊎_elim, append-nil, arith, length-drop, length-take-le, take_all, take_at, drop_at}
 use native.Mathlib.Nat.{sub-zero}
 use borrow.Rule.Slice.PartMut.{put_mid, post_of}
 use Rattle.std.proofs.lemmas.List.{take_rest, drop_all}
@@ -141,3 +141,18 @@ taken_apart e b x y m long mid is first second =
     let front : length x ≡ m = ap length left ∙ length_unlabelled (take m b) ∙ length-take-le m b (omega arith) in
     let right : y ≡ unlabelled (drop m b) = second ∙ ap unlabelled (right_part b x y m (omega arith) front) in
     both_done b x y m (omega arith) front ∙ rw (left, right) (unlabel_in_place e m long mid b is)
+
+-- the same for either direction: b is what is there before the calls on the two parts, and z what is left at the end
+pub passed : (inverse : Bool) (e b x y z : List Bool) (m : ℕ) → 2 ≤ length e → m ≡ length e - length e / 2
+    → b ≡ cond inverse (plus e (drop m e)) e
+    → x ≡ cond inverse (unlabelled (take (m - 0) b)) (labelled (take (m - 0) b))
+    → y
+    ≡ cond inverse (unlabelled (take (length (x ++ post_of 0 (m - 0) b) - m) (drop m (x ++ post_of 0 (m - 0) b))))
+    (labelled (take (length (x ++ post_of 0 (m - 0) b) - m) (drop m (x ++ post_of 0 (m - 0) b))))
+    → z
+    ≡ cond inverse (put_mid m (length (x ++ post_of 0 (m - 0) b) - m) (x ++ post_of 0 (m - 0) b) y)
+    (plus (put_mid m (length (x ++ post_of 0 (m - 0) b) - m) (x ++ post_of 0 (m - 0) b) y) (drop m (put_mid m (length (x ++ post_of 0 (m - 0) b) - m) (x ++ post_of 0 (m - 0) b) y)))
+    → z ≡ cond inverse (unlabelled e) (labelled e)
+passed true e b x y z m long mid before first second after = after ∙ taken_apart e b x y m long mid before first second
+passed false e b x y z m long mid before first second after =
+    let size = ap length before in combined b x y m (omega arith) (omega arith) first second z after ∙ ap labelled before

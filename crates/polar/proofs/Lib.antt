@@ -18,3 +18,4 @@ pub mod Dues
 pub mod FirstPlaces
 pub mod Codes
 pub mod PlanFacts
+pub mod Fronts

@@ -10,22 +10,14 @@ use crate::rows::{write_all, write_front};
 pub fn are_bits(src: &[u8]) -> bool
     ensures { result ≡ all_bits src.now }
 {
-    let mut all = true;
-    for b in src {
-        all &= *b < 2;
-    }
-    all
+    src.iter().fold(true, |all, b| all & (*b < 2))
 }
 
 // How many bits are set.
 pub fn count_ones(word: &[bool]) -> usize
     ensures { result ≡ trues word.now }
 {
-    let mut n = 0;
-    for b in word {
-        n += *b as usize;
-    }
-    n
+    word.iter().filter(|b| **b).count()
 }
 
 // Writes the bits that the bytes stand for.

@@ -12,28 +12,22 @@ use crate::bits::{are_bits, put_bits, write_bytes};
 use crate::labels::{transform, untransform};
 use crate::plan::{MAX_LENGTH, Plan};
 use crate::refusal::Refusal;
+use crate::rows::write_front;
 
 // Writes the labels of the leaves: the data at the active ones in order, 0 at the frozen ones.
 fn put_leaf_labels(marks: &[bool], data: &[u8], labels: &mut [bool])
-    requires all_data { length «data».now ≡ trues marks.now }
-    requires same_len { length labels.old ≡ length marks.now }
+    requires { length labels.old ≡ length marks.now }
     ensures { labels.new ≡ spread marks.now (bits «data».now) }
 {
-    let mut next = 0;
+    let mut rest = data.iter();
     for (i, mark) in marks.iter().enumerate() {
-        let mut label = false;
-        if *mark {
-            label = data[next] == 1;
-            next += 1;
-        }
-        labels[i] = label;
+        labels[i] = *mark && rest.next().is_some_and(|b| *b == 1);
     }
 }
 
 // Writes the codeword of the data.
 fn put_codeword(marks: &[bool], data: &[u8], word: &mut [bool])
-    requires all_data { length «data».now ≡ trues marks.now }
-    requires same_len { length word.old ≡ length marks.now }
+    requires { length word.old ≡ length marks.now }
     ensures { word.new ≡ codeword marks.now (bits «data».now) }
 {
     put_leaf_labels(marks, data, word);
@@ -65,13 +59,8 @@ fn write_active(marks: &[bool], labels: &[bool], out: &mut [u8])
     requires room { trues marks.now ≤ length out.old }
     ensures { out.new ≡ bytes (collect marks.now labels.now) ++ drop (trues marks.now) out.old }
 {
-    let mut next = 0;
-    for (i, mark) in marks.iter().enumerate() {
-        if *mark {
-            out[next] = u8::from(labels[i]);
-            next += 1;
-        }
-    }
+    let active = marks.iter().zip(labels).filter(|(mark, _)| **mark);
+    write_front(out, active.map(|(_, label)| u8::from(*label)));
 }
 
 // Writes the labels of the leaves that a block's bits come from.

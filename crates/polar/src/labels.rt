@@ -1,5 +1,5 @@
 // The label of a tree's root from the labels of its leaves, and back, in place and without memory of its own.
-ghost use Rattle.std.specs.Prelude.{◌≡◌, ◌≤◌, Bool, false, List, length, drop, slice_index_or};
+ghost use Rattle.std.specs.Prelude.{◌≡◌, ◌≤◌, Bool, false, cond, List, length, drop, slice_index_or};
 ghost use Rattle.polar.specs.Shape.{balanced};
 ghost use Rattle.polar.specs.Words.{plus, parity};
 ghost use Rattle.polar.specs.Labels.{label, unlabel};
@@ -25,7 +25,7 @@ pub fn transform(bits: &mut [bool])
     ensures undone { unlabel (balanced (length bits.old)) bits.new ≡ bits.old }
     ensures parity { parity bits.new ≡ slice_index_or bits.old 0 false }
 {
-    combine(bits);
+    pass::<false>(bits);
 }
 
 // Turns the label of a tree's root into the labels of its leaves, in order, in place.
@@ -35,102 +35,64 @@ pub fn untransform(bits: &mut [bool])
     ensures undone { label (balanced (length bits.old)) bits.new ≡ bits.old }
     ensures parity { parity bits.old ≡ slice_index_or bits.new 0 false }
 {
-    take_apart(bits);
+    pass::<true>(bits);
 }
 
-// The transform: the children's labels, then the right one added to the left one. Nodes of up to eight
-// leaves are done without recursion, which is where most of the time would go.
-fn combine(bits: &mut [bool])
-    ensures { bits.new ≡ label (balanced (length bits.old)) bits.old }
+// The transform, or the transform undone where `INVERSE`: the right part is added to the left one after the children's labels
+// are worked out, or before their leaves are.
+fn pass<const INVERSE: bool>(bits: &mut [bool])
+    ensures { bits.new ≡ cond INVERSE (unlabel (balanced (length bits.old)) bits.old) (label (balanced (length bits.old)) bits.old) }
 {
     if bits.len() <= 8 {
-        combine_eight(bits);
+        pass_eight(bits);
         return;
     }
     let (left, _) = children(bits.len());
-    combine(&mut bits[0..left]);
-    combine(&mut bits[left..]);
-    add_right(bits, left);
+    if INVERSE {
+        add_right(bits, left);
+    }
+    pass::<INVERSE>(&mut bits[0..left]);
+    pass::<INVERSE>(&mut bits[left..]);
+    if !INVERSE {
+        add_right(bits, left);
+    }
 }
 
-// The same for up to eight leaves.
-fn combine_eight(bits: &mut [bool])
+// The same for up to eight leaves, where the transform undoes itself. It is done without recursion, which is where most of the
+// time would go.
+#[inline(always)]
+fn pass_eight(bits: &mut [bool])
     requires { length bits.old ≤ 8 }
-    ensures { bits.new ≡ label (balanced (length bits.old)) bits.old }
+    ensures forth { bits.new ≡ label (balanced (length bits.old)) bits.old }
+    ensures back { bits.new ≡ unlabel (balanced (length bits.old)) bits.old }
 {
     if bits.len() <= 4 {
-        combine_four(bits);
+        pass_four(bits);
         return;
     }
     let (left, _) = children(bits.len());
-    combine_four(&mut bits[0..left]);
-    combine_four(&mut bits[left..]);
+    pass_four(&mut bits[0..left]);
+    pass_four(&mut bits[left..]);
     add_right(bits, left);
 }
 
 // The same for up to four leaves, sum by sum.
-fn combine_four(bits: &mut [bool])
+fn pass_four(bits: &mut [bool])
     requires { length bits.old ≤ 4 }
     ensures { bits.new ≡ label (balanced (length bits.old)) bits.old }
 {
-    let len = bits.len();
-    if len == 4 {
-        bits[0] ^= bits[1];
-        bits[2] ^= bits[3];
-        bits[0] ^= bits[2];
-        bits[1] ^= bits[3];
-    } else if len == 3 {
-        bits[0] ^= bits[1];
-        bits[0] ^= bits[2];
-    } else if len == 2 {
-        bits[0] ^= bits[1];
-    }
-}
-
-// The transform undone: the right part added to the left one, then the children's leaves.
-fn take_apart(bits: &mut [bool])
-    ensures { bits.new ≡ unlabel (balanced (length bits.old)) bits.old }
-{
-    if bits.len() <= 8 {
-        take_apart_eight(bits);
-        return;
-    }
-    let (left, _) = children(bits.len());
-    add_right(bits, left);
-    take_apart(&mut bits[0..left]);
-    take_apart(&mut bits[left..]);
-}
-
-// The same for up to eight leaves.
-fn take_apart_eight(bits: &mut [bool])
-    requires { length bits.old ≤ 8 }
-    ensures { bits.new ≡ unlabel (balanced (length bits.old)) bits.old }
-{
-    if bits.len() <= 4 {
-        take_apart_four(bits);
-        return;
-    }
-    let (left, _) = children(bits.len());
-    add_right(bits, left);
-    take_apart_four(&mut bits[0..left]);
-    take_apart_four(&mut bits[left..]);
-}
-
-// The same for up to four leaves, sum by sum.
-fn take_apart_four(bits: &mut [bool])
-    requires { length bits.old ≤ 4 }
-    ensures { bits.new ≡ unlabel (balanced (length bits.old)) bits.old }
-{
-    let len = bits.len();
-    if len == 4 {
-        bits[0] ^= bits[2];
-        bits[1] ^= bits[3];
-        bits[0] ^= bits[1];
-        bits[2] ^= bits[3];
-    } else if len == 3 {
-        bits[0] ^= bits[2];
-        bits[0] ^= bits[1];
-    } else if len == 2 {
-        bits[0] ^= bits[1];
+    match bits.len() {
+        4 => {
+            bits[0] ^= bits[1];
+            bits[2] ^= bits[3];
+            bits[0] ^= bits[2];
+            bits[1] ^= bits[3];
+        }
+        3 => {
+            bits[0] ^= bits[1];
+            bits[0] ^= bits[2];
+        }
+        2 => bits[0] ^= bits[1],
+        _ => {}
     }
 }

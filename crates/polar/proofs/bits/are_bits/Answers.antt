@@ -1,19 +1,16 @@
-use Rattle.std.proofs.Common.{◌+◌, ◌&&◌, ltb, get_or, drop, sym, ap, ◌∙◌}
+use Rattle.std.proofs.Common.{◌≡◌, ℕ, Bool, true, ◌&&◌, nat_lt, List, [], ◌∷◌, sym, ◌∙◌, rules, tests}
 use mathlib.Core.Bool.{and_assoc, and-true}
-use Rattle.std.proofs.lemmas.List.{at_drop_more, at_drop_all}
+use Rattle.std.specs.List.{fold}
+use Rattle.std.proofs.lemmas.Iterator.{YieldsList-from_slice}
+use Rattle.std.proofs.lemmas.Iterator.Consumers.{fold_from_yields_List}
 use Rattle.polar.specs.Bytes.{all_bits}
 use Rattle.polar.proofs.bits.are_bits.Goals as goal
 
-pub loop-b-preserved : goal.loop-b-preserved
-loop-b-preserved c =
-    let src = c.args.src.now in
-    let i = c.loop-b.b-index in
-    let all = c.loop-b.all in
-    let step = at_drop_more all_bits src i 0 c.loop-b-test.true in
-    and_assoc all (ltb (get_or src i 0) 2) (all_bits (drop (i + 1) src)) ∙ ap (λ z. all && z) (sym step) ∙ c.loop-b.invariant
+fold_all : (all : Bool) (bs : List ℕ) → fold (λ a b. a && nat_lt b 2) all bs ≡ all && all_bits bs
+fold_all all [] = sym (and-true all)
+fold_all all (b ∷ bs) = fold_all (all && nat_lt b 2) bs ∙ and_assoc all (nat_lt b 2) (all_bits bs)
 
 pub returns : goal.returns
 returns c =
-    let src = c.args.src.now in
-    let none = at_drop_all all_bits src c.loop-b.b-index c.loop-b-test.false in
-    sym (and-true c.loop-b.all) ∙ ap (λ z. c.loop-b.all && z) (sym none) ∙ c.loop-b.invariant
+    fold_from_yields_List _ (λ a b. a && nat_lt b 2) true _ c.fold.ensures.ran (YieldsList-from_slice c.args.src.now cc) (λ a x b q k. search (rules, tests))
+    ∙ fold_all true c.args.src.now

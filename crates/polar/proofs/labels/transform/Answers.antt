@@ -9,7 +9,7 @@ use Rattle.polar.proofs.labels.transform.Goals as goal
 pub returns : goal.returns
 returns c =
     let e = c.args.bits.now in
-    let is = c.combine.ensures in
+    let is = c.pass.ensures in
     record {
       value = is;
       labelled = λ some. rw is (labelled_label (length e) some e refl);

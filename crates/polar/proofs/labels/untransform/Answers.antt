@@ -10,8 +10,8 @@ use Rattle.polar.proofs.labels.untransform.Goals as goal
 pub returns : goal.returns
 returns c =
     let e = c.args.bits.now in
-    let b = c.take_apart.new.bits in
-    let is = c.take_apart.ensures in
+    let b = c.pass.new.bits in
+    let is = c.pass.ensures in
     let size : length b ≡ length e = ap length is ∙ length_unlabelled e in
     let back : label (balanced (length e)) b ≡ e = ap (label (balanced (length e))) is ∙ labelled_unlabelled e in
     record {
