@@ -1,5 +1,6 @@
 // The moves of a walk.
 ghost use Rattle.std.specs.Prelude.{◌≡◌, ◌+◌, ◌≤◌, [], ◌∷◌, ◌≢◌};
+ghost use Rattle.std.specs.Iterator.{YieldsFirst, item_count};
 ghost use Rattle.polar.specs.Walks.{current, remaining, Begun, WalkMade, Moved, ReadingOrder};
 
 use crate::frame::{Done, Frame, Node};
@@ -70,5 +71,18 @@ impl Walk {
         ensures { remaining self.old ≡ current self.new ∷ remaining self.new }
     {
         while !self.step() {}
+    }
+}
+
+// A walk's items are the nodes that it has yet to enter, in reading order.
+impl Iterator for Walk {
+    type Item = Node;
+
+    ghost next_gives = { YieldsFirst remaining };
+
+    ghost remaining = { item_count remaining };
+
+    fn next(&mut self) -> Option<Node> {
+        self.advance()
     }
 }
