@@ -77,25 +77,19 @@ impl Walk {
         ensures value { result ≡ turned (take self.now.depth self.now.frames) }
         ensures few { result ≤ self.now.depth }
     {
-        let mut turns = 0;
-        for k in 0..self.depth {
-            turns += self.frames[k].turn();
-        }
-        turns
+        self.frames[..self.depth]
+            .iter()
+            .map(|frame| frame.turn())
+            .sum()
     }
 
     // Whether a node is ahead.
     fn has_next(&self) -> bool
         ensures { More result (ahead self.now.frames self.now.depth) }
     {
-        if self.frames[self.depth].unfinished() {
-            return true;
-        }
-        for k in 0..self.depth {
-            if self.frames[k].right_ahead() {
-                return true;
-            }
-        }
-        false
+        self.frames[self.depth].unfinished()
+            || self.frames[..self.depth]
+                .iter()
+                .any(|frame| frame.right_ahead())
     }
 }
