@@ -8,6 +8,7 @@ use crate::tree::children;
 pub mod moves;
 
 // A walk stands on one node. It keeps a frame for each node on the way from the root to that one, which lies at `depth`.
+// An array with its depth, and no Vec: a walk takes no memory but its own, with one frame for each of the at most 13 depths.
 #[derive(Drop)]
 pub struct Walk {
     frames: [Frame; 13],
@@ -77,10 +78,7 @@ impl Walk {
         ensures value { result ≡ turned (take self.now.depth self.now.frames) }
         ensures few { result ≤ self.now.depth }
     {
-        self.frames[..self.depth]
-            .iter()
-            .map(|frame| frame.turn())
-            .sum()
+        self.frames[..self.depth].iter().map(Frame::turn).sum()
     }
 
     // Whether a node is ahead.
@@ -88,8 +86,6 @@ impl Walk {
         ensures { More result (ahead self.now.frames self.now.depth) }
     {
         self.frames[self.depth].unfinished()
-            || self.frames[..self.depth]
-                .iter()
-                .any(|frame| frame.right_ahead())
+            || self.frames[..self.depth].iter().any(Frame::right_ahead)
     }
 }
