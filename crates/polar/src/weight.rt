@@ -27,5 +27,5 @@ pub(crate) fn least_weight(marks: &[bool]) -> Option<usize>
     iter::once(walk.node())
         .chain(walk)
         .filter_map(|node| leaf_weight(marks, node))
-        .min()
+        .reduce(usize::min)
 }
