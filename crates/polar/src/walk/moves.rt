@@ -54,6 +54,7 @@ impl Walk {
 
     // Moves to the next node in reading order and answers it; after the last leaf it answers none and stays.
     // Over a whole run the k-th answer is the k-th node in reading order.
+    #[tactic(auto, using(crate::proofs::Runs::reads_in_order))]
     pub fn advance(&mut self) -> Option<Node>
         ensures moved { Moved self.old result self.new }
         ensures order { ReadingOrder }
