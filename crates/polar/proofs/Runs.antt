@@ -1,6 +1,7 @@
 -- Whole runs of a walk: the k-th answer is the k-th node in reading order. Assumes nothing.
-use Rattle.std.proofs.Common.{◌≡◌, ℕ, zero, suc, List, [], ◌∷◌, length, drop, false, subst, Some, None, Option, refl, ap, ◌∙◌}
+use Rattle.std.proofs.Common.{◌≡◌, ℕ, zero, suc, List, [], ◌∷◌, length, drop, false, subst, Some, None, Option, refl, ap, add-one, ◌∙◌}
 use Rattle.std.specs.List.{slice_get}
+use Rattle.std.proofs.lemmas.List.{drop-drop}
 use Rattle.std.specs.Iterator.{YieldsFirst}
 use Rattle.std.specs.Iterator.Adapters.{chain_first, chain_second, chain_first_done, chain_second_done, chain_steps, once_item, once_steps}
 use Rattle.std.specs.declared.iter.Chain.{Chain}
@@ -12,11 +13,6 @@ use Rattle.polar.specs.declared.frame.Node.{Node}
 use Rattle.polar.specs.declared.walk.Walk.{Walk}
 use Rattle.polar.specs.Preorder.{reading_order}
 use Rattle.polar.specs.Walks.{current, remaining, Begun, Moved, Run, new, move, ReadingOrder}
-
-drop_next : {A : Type 0} (k : ℕ) (xs : List A) → drop 1 (drop k xs) ≡ drop (suc k) xs
-drop_next zero xs = refl
-drop_next (suc k) [] = refl
-drop_next (suc k) (x ∷ xs) = drop_next k xs
 
 nth_drop : {A : Type 0} (k : ℕ) (xs : List A) → slice_get (drop k xs) 0 ≡ slice_get xs k
 nth_drop zero xs = refl
@@ -31,7 +27,7 @@ moved_on w w' (Some n) enters = (rw enters.0, rw enters.0)
 left_over : {n : ℕ} {answers : List (Option Node)} {w : Walk} → Run n answers w → remaining w ≡ drop (suc (length answers)) (reading_order n)
 left_over (new begun) = ap (drop 1) begun
 left_over {n} (move {answers} {w} {w'} {answer} run moved) =
-    (moved_on w w' answer moved).0 ∙ ap (drop 1) (left_over run) ∙ drop_next (suc (length answers)) (reading_order n)
+    (moved_on w w' answer moved).0 ∙ ap (drop 1) (left_over run) ∙ drop-drop 1 (suc (length answers)) (reading_order n) ∙ rw add-one
 
 pub reads_in_order : ReadingOrder
 reads_in_order n answer answers w' (move {w = w} run moved) =

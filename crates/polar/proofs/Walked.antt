@@ -5,6 +5,7 @@ use mathlib.Core.Bool.{false≢true}
 use Rattle.std.specs.List.{AllWithin}
 use Rattle.std.proofs.lemmas.List.Elements.{All-head, All-tail, All-from_all_within}
 use Rattle.std.proofs.lemmas.List.Recursion.{is_sum_by}
+use Rattle.std.proofs.lemmas.List.Sums.{sum_by_more}
 use Rattle.std.proofs.lemmas.List.{take_more, take-set}
 use Rattle.std.proofs.lemmas.Bool.{cases_eq, cases_lt}
 use Rattle.std.proofs.lemmas.Bool.Decides.{nat_tests}
@@ -35,16 +36,12 @@ nodes_is : (s : Shape) (from t : ℕ) → nodes s from t ≡ node_at (leaves s) 
 nodes_is leaf from t = refl
 nodes_is (node l r) from t = refl
 
-turned_push : (fs : List Frame) (f : Frame) → turned (fs ++ f ∷ []) ≡ turned fs + turning f
-turned_push [] f = omega arith
-turned_push (g ∷ fs) f = omega (arith, turned_push fs f)
-
--- the turns one node further down
-pub turned_more : (fs : List Frame) (d : ℕ) → d < length fs → turned (take (d + 1) fs) ≡ turned (take d fs) + turning (frame_at fs d)
-turned_more fs d h = ap turned (take_more fs d (fresh 0 0) h) ∙ turned_push (take d fs) (frame_at fs d)
-
 pub turned_sum : (fs : List Frame) → turned fs ≡ sum_by turning fs
 turned_sum = is_sum_by turned turning refl (λ f fs. refl)
+
+-- the turns one node further down
+turned_more : (fs : List Frame) (d : ℕ) → d < length fs → turned (take (d + 1) fs) ≡ turned (take d fs) + turning (frame_at fs d)
+turned_more fs d h = rw (turned_sum (take (d + 1) fs), turned_sum (take d fs)) (sum_by_more turning fs d (fresh 0 0) h)
 
 turn_most : (d : Done) → turn_by d ≤ 1
 turn_most Neither = omega arith

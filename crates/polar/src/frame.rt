@@ -1,6 +1,6 @@
 // What a walk keeps of the nodes on the way to the one it stands on.
 ghost use Rattle.std.specs.Prelude.{◌≡◌, ℕ, ◌≤◌};
-ghost use Rattle.polar.specs.Preorder.{kind_of, one_more, turning, Unfinished, RightAhead};
+ghost use Rattle.polar.specs.Preorder.{fresh, kind_of, one_more, turning, Unfinished, RightAhead};
 
 // A node of a block's tree: its length, the place of its first symbol, and its turns, the right branches between the root and it.
 #[derive(Clone, Copy, PartialEq, Eq, Debug)]
@@ -33,6 +33,17 @@ pub struct Frame {
 }
 
 impl Frame {
+    // The record of a node that is entered.
+    pub(crate) fn new(len: usize, first: usize) -> Frame
+        ensures { result ≡ fresh len first }
+    {
+        Frame {
+            len,
+            first,
+            done: Done::Neither,
+        }
+    }
+
     pub(crate) fn kind(&self) -> Kind
         ensures { result ≡ kind_of self.now.len }
     {

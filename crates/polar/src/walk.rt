@@ -7,11 +7,14 @@ use crate::tree::children;
 
 pub mod moves;
 
+// The depths of the longest block's tree.
+const LEVELS: usize = 13;
+
 // A walk stands on one node. It keeps a frame for each node on the way from the root to that one, which lies at `depth`.
 // An array with its depth, and no Vec: a walk takes no memory but its own, with one frame for each of the at most 13 depths.
 #[derive(Drop)]
 pub struct Walk {
-    frames: [Frame; 13],
+    frames: [Frame; LEVELS],
     depth: usize,
     ghost sized: { length frames ≡ 13 },
     ghost shallow: { depth < 13 },
@@ -27,11 +30,7 @@ impl Walk {
         ensures frames { self.new.frames ≡ slice_set self.old.frames (self.old.depth + 1) (fresh len first) }
     {
         self.depth += 1;
-        self.frames[self.depth] = Frame {
-            len,
-            first,
-            done: Done::Neither,
-        };
+        self.frames[self.depth] = Frame::new(len, first);
     }
 
     // Leaves a finished node for its parent, which has one child more finished.

@@ -3,12 +3,10 @@ ghost use Rattle.std.specs.Prelude.{◌≡◌, ◌+◌, ◌≤◌, [], ◌∷◌
 ghost use Rattle.std.specs.Iterator.{YieldsFirst, item_count};
 ghost use Rattle.polar.specs.Walks.{current, remaining, Begun, WalkMade, Moved, ReadingOrder};
 
-use crate::frame::{Done, Frame, Node};
+use crate::frame::{Frame, Node};
 use crate::plan::MAX_LENGTH;
 use crate::refusal::Refusal;
-use crate::walk::Walk;
-
-const LEVELS: usize = 13;
+use crate::walk::{LEVELS, Walk};
 
 impl Walk {
     // A walk that stands on the root of the tree of `len` symbols.
@@ -27,13 +25,8 @@ impl Walk {
         requires short { len ≤ 4096 }
         ensures { Begun len result }
     {
-        let root = Frame {
-            len,
-            first: 0,
-            done: Done::Neither,
-        };
         Walk {
-            frames: [root; LEVELS],
+            frames: [Frame::new(len, 0); LEVELS],
             depth: 0,
         }
     }

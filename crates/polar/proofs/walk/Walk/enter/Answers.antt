@@ -8,4 +8,5 @@ invariant_of-self-clause-fitting c =
     let walk = c.args.self.now in
     let d = walk.depth + 1 in
     let within : d < length walk.frames = omega arith in
-    set_keeps Fitting walk.frames d d (fresh c.args.len c.args.first) within (λ k h apart. walk.fitting k (omega arith)) c.requires.fitting
+    rw c.new.ensures
+    (set_keeps Fitting walk.frames d d (fresh c.args.len c.args.first) within (λ k h apart. walk.fitting k (omega arith)) c.requires.fitting)
