@@ -32,9 +32,12 @@ clear_single (false ∷ ms) (suc n) zero a = absurd (grind arith)
 clear_single (true ∷ ms) (suc n) (suc i) a = clear_single ms n i a
 clear_single (false ∷ ms) (suc n) (suc i) a = (refl, clear_single ms n i a)
 
+pub some_weighs : (s : Shape) (ms : List Bool) → length ms ≡ leaves s → 0 < trues ms → 0 < weight s ms
+some_weighs s ms long some = let a = active_at ms some in (weight_bound s ms a.0 (omega (arith, a.1)) a.2).0
+
 module _ (s : Shape) (ms : List Bool) (heavy : LeftHeavy s) (long : length ms ≡ leaves s) (some : 0 < trues ms) where
   lightest : Lightest s ms
-  lightest = let a = active_at ms some in weight_attained s ms (weight_bound s ms a.0 (omega (arith, a.1)) a.2).0
+  lightest = weight_attained s ms (some_weighs s ms long some)
 
   pub least_weight : LeastWeight s ms (weight s ms)
   least_weight = record {
@@ -56,7 +59,7 @@ module _ (s : Shape) (ms : List Bool) (heavy : LeftHeavy s) (long : length ms �
       let code : Codeword s ms c = (size, subst (Clear ms) (sym flat) (clear_zeros ms n)) in
       let code' : Codeword s ms c' = (size', subst (Clear ms) (sym (unlabel_label s b size_b)) (clear_single ms n l.at l.active)) in
       let ones : trues (plus c c') ≡ weight s ms = ap trues (zeros_plus n c' size') ∙ single_weight s l.at heavy l.within ∙ sym l.least in
-      let pos = let a = active_at ms some in (weight_bound s ms a.0 (omega (arith, a.1)) a.2).0 in
+      let pos = some_weighs s ms long some in
       let apart : c ≡ c' → ⊥ = λ same.
       let none : trues (plus c c') ≡ 0 = ap (λ z. trues (plus c z)) (sym same) ∙ ap trues (plus_same c) ∙ trues_zeros (length c) in
       omega arith in

@@ -1,12 +1,21 @@
 -- What a walk's steps do to its frames. Assumes nothing.
-use Rattle.std.proofs.Common.{◌≡◌, ℕ, zero, suc, ◌+◌, ◌-◌, ◌/◌, ◌^◌, ◌<◌, ◌≤◌, true, false, ◌≢◌, List, [], ◌∷◌, ◌++◌, length, take, set, sym, refl, ap, ◌∙◌, subst, ⊎_elim, append_assoc, append-nil, add-zero, zero-add, arith, get_or-set_other, get_or-set_same}
+use Rattle.std.proofs.Common.{◌≡◌, ℕ, zero, suc, ◌+◌, ◌-◌, ◌/◌, ◌^◌, ◌<◌, ◌≤◌, Bool, MatchBool, true, false, not, ◌≢◌, List, [], ◌∷◌, ◌++◌, All, HoldsAt, sum_by, length, take, set, sym, refl, ap, ◌∙◌, subst, ⊎_elim, append_assoc, append-nil, add-zero, zero-add, arith, get_or-set_other, get_or-set_same}
 use mathlib.Core.List.{nil≢cons}
+use mathlib.Core.Bool.{false≢true}
+use Rattle.std.specs.List.{AllWithin}
+use Rattle.std.proofs.lemmas.List.Elements.{All-head, All-tail, All-from_all_within}
+use Rattle.std.proofs.lemmas.List.Recursion.{is_sum_by}
+use Rattle.std.proofs.lemmas.List.Sums.{sum_by_more}
 use Rattle.std.proofs.lemmas.List.{take_more, take-set}
 use Rattle.std.proofs.lemmas.Bool.{cases_eq, cases_lt}
 use Rattle.std.proofs.lemmas.Bool.Decides.{nat_tests}
 use Rattle.polar.specs.Shape.{Shape, leaf, node, leaves, balanced}
-use Rattle.polar.specs.Preorder.{node_at, nodes, reading_order, under, under_right, todo_by, todo, later, pending, turning, turn_by, turned, fresh, kind_of, more_done, one_more, frame_at, ahead, here, Stepped}
+use Rattle.polar.specs.Preorder.{node_at, nodes, reading_order, under, under_right, todo_by, todo, later, pending, turning, turn_by, turned, fresh, kind_of, more_done, one_more, frame_at, ahead, here, More, Unfinished, RightAhead, Stepped}
 use Rattle.polar.specs.declared.frame.Frame.{Frame}
+use Rattle.polar.specs.contracts.frame.Kind.{the_type as kinds}
+use Rattle.polar.specs.contracts.frame.Done.{the_type as dones}
+use denote.Enum.Bare.{sameb}
+use Rattle.polar.specs.declared.frame.Kind.{Kind}
 use Rattle.polar.specs.declared.frame.Kind.TheVariants.{Leaf, Inner}
 use Rattle.polar.specs.declared.frame.Done.{Done}
 use Rattle.polar.specs.declared.frame.Done.TheVariants.{Neither, Left, Both}
@@ -27,18 +36,22 @@ nodes_is : (s : Shape) (from t : ℕ) → nodes s from t ≡ node_at (leaves s) 
 nodes_is leaf from t = refl
 nodes_is (node l r) from t = refl
 
-turned_push : (fs : List Frame) (f : Frame) → turned (fs ++ f ∷ []) ≡ turned fs + turning f
-turned_push [] f = omega arith
-turned_push (g ∷ fs) f = omega (arith, turned_push fs f)
+pub turned_sum : (fs : List Frame) → turned fs ≡ sum_by turning fs
+turned_sum = is_sum_by turned turning refl (λ f fs. refl)
 
 -- the turns one node further down
-pub turned_more : (fs : List Frame) (d : ℕ) → d < length fs → turned (take (d + 1) fs) ≡ turned (take d fs) + turning (frame_at fs d)
-turned_more fs d h = ap turned (take_more fs d (fresh 0 0) h) ∙ turned_push (take d fs) (frame_at fs d)
+turned_more : (fs : List Frame) (d : ℕ) → d < length fs → turned (take (d + 1) fs) ≡ turned (take d fs) + turning (frame_at fs d)
+turned_more fs d h = rw (turned_sum (take (d + 1) fs), turned_sum (take d fs)) (sum_by_more turning fs d (fresh 0 0) h)
 
-pub turn_most : (d : Done) → turn_by d ≤ 1
+turn_most : (d : Done) → turn_by d ≤ 1
 turn_most Neither = omega arith
 turn_most Left = omega arith
 turn_most Both = omega arith
+
+-- one turn at most at each node on the way
+pub turned_most : (fs : List Frame) → turned fs ≤ length fs
+turned_most [] = omega arith
+turned_most (f ∷ fs) = omega (arith, turn_most f.done, turned_most fs)
 
 pending_push : (t : ℕ) (fs : List Frame) (f : Frame) → pending t (fs ++ f ∷ []) ≡ later (t + turned fs) f ++ pending t fs
 pending_push t [] f = sym (append-nil (later (t + 0) f) ∙ ap (λ u. later u f) (add-zero t))
@@ -129,6 +142,12 @@ entered_right fs d l r within done long left right =
     before ∙ ap (λ z. z ++ rest) (inner_right n l r from t long left right) ∙ ap (λ z. node_at r (from + l) (t + 1) ∷ z) (sym after)
     ∙ ap (λ z. z ∷ ahead (set fs (d + 1) (fresh r (from + l))) (d + 1)) (sym (here_entered fs d r (from + l) (t + 1) within turns))
 
+pub kind_inner : (n : ℕ) → kind_of n ≡ Inner → 2 ≤ n
+kind_inner n is = grind (arith, nat_tests)
+
+pub kind_leaf : (n : ℕ) → kind_of n ≡ Leaf → n < 2
+kind_leaf n is = grind (arith, nat_tests)
+
 -- nothing is under a leaf
 todo_by_leaf : (x : Done) (n from t : ℕ) → n < 2 → todo_by x (balanced n) from t ≡ []
 todo_by_leaf Neither n from t h = rw (balanced_leaf n h)
@@ -149,34 +168,59 @@ some_under n from t long none = nil≢cons (sym none ∙ inner_both n (n - n / 2
 pub some_right : (n from t : ℕ) → 2 ≤ n → under_right (balanced n) from t ≡ [] → ⊥
 some_right n from t long none = nil≢cons (sym none ∙ inner_right n (n - n / 2) (n / 2) from t long refl refl)
 
+-- what an answer of `==` on kinds says of the length
+pub inner_by : (n : ℕ) (k : Kind) → k ≡ kind_of n → sameb kinds k Inner ≡ true → 2 ≤ n
+inner_by n Leaf is same = absurd (false≢true same)
+inner_by n Inner is same = kind_inner n (sym is)
+
+pub leaf_by : (n : ℕ) (k : Kind) → k ≡ kind_of n → sameb kinds k Inner ≡ false → n < 2
+leaf_by n Leaf is apart = kind_leaf n (sym is)
+leaf_by n Inner is apart = absurd (false≢true (sym apart))
+
+-- and one on the children that are finished, at an inner node
+todo_inner : (d : Done) (n from t : ℕ) → 2 ≤ n → More (not (sameb dones d Both)) (todo_by d (balanced n) from t)
+todo_inner Neither n from t long = some_under n from t long
+todo_inner Left n from t long = some_right n from t long
+todo_inner Both n from t long = refl
+
+later_inner : (d : Done) (n from t : ℕ) → 2 ≤ n → More (sameb dones d Neither) (todo_by (more_done d) (balanced n) from t)
+later_inner Neither n from t long = some_right n from t long
+later_inner Left n from t long = refl
+later_inner Both n from t long = refl
+
+pub unfinished_inner : (f : Frame) → 2 ≤ f.len → Unfinished f (not (sameb dones f.done Both))
+unfinished_inner f long t = todo_inner f.done f.len f.first t long
+
+pub right_ahead_inner : (f : Frame) → 2 ≤ f.len → RightAhead f (sameb dones f.done Neither)
+right_ahead_inner f long t = later_inner f.done f.len f.first t long
+
 append_none : {A : Type 0} (xs ys : List A) → xs ++ ys ≡ [] → (xs ≡ []) × (ys ≡ [])
 append_none [] ys none = (refl, none)
 append_none (x ∷ xs) ys none = absurd (nil≢cons (sym none))
 
--- nothing is ahead: neither under the node at hand nor beside the way to it
-pub none_here : (fs : List Frame) (d : ℕ) → ahead fs d ≡ [] → todo (turned (take d fs)) (frame_at fs d) ≡ []
-none_here fs d none = (append_none (todo (turned (take d fs)) (frame_at fs d)) (pending 0 (take d fs)) none).0
+-- beside the way lies what its nodes have on their right, and nothing else
+beside_none : (fs : List Frame) (t : ℕ) → All (λ f. RightAhead f false) fs → pending t fs ≡ []
+beside_none [] t none = refl
+beside_none (f ∷ fs) t none =
+    rw (beside_none fs (t + turning f) (All-tail (λ g. RightAhead g false) f fs none), All-head (λ g. RightAhead g false) f fs none t)
 
-none_beside : (fs : List Frame) (d k : ℕ) → d ≤ length fs → k < d → pending 0 (take d fs) ≡ [] → later (turned (take k fs)) (frame_at fs k) ≡ []
-none_beside fs zero k long below none = absurd (omega arith)
-none_beside fs (suc d) k long below none =
-    let next : d + 1 ≡ suc d = omega arith in
-    let parts = append_none (later (turned (take d fs)) (frame_at fs d)) (pending 0 (take d fs))
-    (sym (pending_more fs d (omega arith)) ∙ ap (λ m. pending 0 (take m fs)) next ∙ none) in
-    ⊎_elim
-    (λ same. subst (λ j. later (turned (take j fs)) (frame_at fs j) ≡ []) (sym same) parts.0)
-    (λ apart. none_beside fs d k (omega arith) (omega arith) parts.1)
-    (cases_eq k d)
+beside_some : (fs : List Frame) (t k : ℕ) → k < length fs → HoldsAt (λ f. RightAhead f true) fs k → pending t fs ≡ [] → ⊥
+beside_some [] t k within some none = absurd (omega arith)
+beside_some (f ∷ fs) t zero within some none = some f t (append_none (pending (t + turning f) fs) (later t f) none).1
+beside_some (f ∷ fs) t (suc k) within some none = beside_some fs (t + turning f) k (omega arith) some (append_none (pending (t + turning f) fs) (later t f) none).0
 
-pub none_later : (fs : List Frame) (d k : ℕ) → d ≤ length fs → k < d → ahead fs d ≡ [] → later (turned (take k fs)) (frame_at fs k) ≡ []
-none_later fs d k long below none =
-    none_beside fs d k long below
-    (append_none (todo (turned (take d fs)) (frame_at fs d)) (pending 0 (take d fs)) none).1
+-- a node is ahead where one is under the node at hand, and else where one is beside the way to it
+pub more_here : (fs : List Frame) (d : ℕ) → Unfinished (frame_at fs d) true → More true (ahead fs d)
+more_here fs d some none = some (turned (take d fs)) (append_none (todo (turned (take d fs)) (frame_at fs d)) (pending 0 (take d fs)) none).0
 
--- nothing beside one node more of the way
-pub none_more : (fs : List Frame) (k : ℕ) → k < length fs → pending 0 (take k fs) ≡ [] → later (turned (take k fs)) (frame_at fs k) ≡ []
-    → pending 0 (take (k + 1) fs) ≡ []
-none_more fs k within none own = pending_more fs k within ∙ rw (own, none)
+pub more_beside : (fs : List Frame) (d : ℕ) (r : Bool) → Unfinished (frame_at fs d) false
+    → MatchBool r ((k : ℕ) × (k < length (take d fs)) × HoldsAt (λ f. RightAhead f true) (take d fs) k)
+    (AllWithin (λ f. RightAhead f false) (take d fs) 0 (length (take d fs)))
+    → More r (ahead fs d)
+more_beside fs d true none beside = λ empty.
+    beside_some (take d fs) 0 beside.0 beside.1 beside.2 (append_none (todo (turned (take d fs)) (frame_at fs d)) (pending 0 (take d fs)) empty).1
+more_beside fs d false none beside =
+    rw (none (turned (take d fs)), beside_none (take d fs) 0 (All-from_all_within (λ f. RightAhead f false) (take d fs) beside))
 
 -- out of a finished node, which leaves what is ahead
 left_behind : (fs : List Frame) (d : ℕ) → d + 1 < length fs → todo (turned (take (d + 1) fs)) (frame_at fs (d + 1)) ≡ []
@@ -187,12 +231,6 @@ left_behind fs d within finished =
     let after : ahead (set fs d (one_more g)) d ≡ later (turned (take d fs)) g ++ pending 0 (take d fs) =
     rw (at, take-set fs d (one_more g)) in
     rw finished (pending_more fs d (omega arith) ∙ sym after)
-
-pub kind_inner : (n : ℕ) → kind_of n ≡ Inner → 2 ≤ n
-kind_inner n is = grind (arith, nat_tests)
-
-pub kind_leaf : (n : ℕ) → kind_of n ≡ Leaf → n < 2
-kind_leaf n is = grind (arith, nat_tests)
 
 -- a child lies less deep than 13 levels, and is small enough for its level
 pub fitting_child : (d n l : ℕ) → d < 13 → 2 ≤ n → n ≤ 2 ^ (12 - d) → l ≤ n - n / 2 → (d < 12) × (l ≤ 2 ^ (12 - (d + 1)))

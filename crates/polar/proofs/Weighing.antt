@@ -1,20 +1,21 @@
 -- The smallest weight over the nodes of a tree is the tree's weight. Assumes nothing.
-use Rattle.std.proofs.Common.{◌≡◌, ℕ, zero, suc, ◌+◌, ◌-◌, ◌*◌, ◌^◌, ◌≤◌, Bool, true, false, cond, eqb, List, [], ◌∷◌, ◌++◌, get_or, take, drop, sym, refl, ap, ◌∙◌, mul_assoc, mul-le-mul_left, mul-add, arith, take-take}
-use Rattle.std.specs.List.{AllByRecursion}
+use Rattle.std.proofs.Common.{◌≡◌, ℕ, zero, suc, ◌+◌, ◌-◌, ◌*◌, ◌^◌, ◌<◌, ◌≤◌, Bool, true, false, cond, eqb, min, List, [], ◌∷◌, ◌++◌, get_or, take, drop, Some, ⊎_elim, sym, refl, ap, ◌∙◌, mul_assoc, mul-le-mul_left, mul-add, arith, take-take}
+use Rattle.std.specs.List.{All, cons_option, filter_map, fold, reduce}
+use Rattle.std.proofs.lemmas.List.Elements.{All-nil, All-cons, All-append}
 use Rattle.std.proofs.lemmas.List.{drop-take, drop-drop}
 use Rattle.std.proofs.lemmas.Bool.Decides.{nat_tests}
-use Rattle.std.proofs.lemmas.Bool.{ne_eqb}
+use Rattle.std.proofs.lemmas.Bool.{ne_eqb, cases_lt}
 use Rattle.polar.specs.Shape.{Shape, leaf, node, leaves, balanced, LeftHeavy}
 use Rattle.polar.specs.Marks.{lesser, weight}
 use Rattle.polar.specs.Preorder.{nodes, reading_order}
-use Rattle.polar.specs.Lightest.{node_weight, lightest, Within}
+use Rattle.polar.specs.Lightest.{node_weight, some_weight, lightest, Within}
 use Rattle.polar.specs.declared.frame.Node.{Node}
 use Rattle.polar.proofs.Shapes.{leaves_pos, leaves_balanced, left_heavy_balanced, few_turns}
 
-pub lesser_assoc : (u v w : ℕ) → lesser (lesser u v) w ≡ lesser u (lesser v w)
+lesser_assoc : (u v w : ℕ) → lesser (lesser u v) w ≡ lesser u (lesser v w)
 lesser_assoc u v w = grind (arith, nat_tests)
 
-pub lesser_none : (v : ℕ) → lesser v 0 ≡ v
+lesser_none : (v : ℕ) → lesser v 0 ≡ v
 lesser_none v = grind (arith, nat_tests)
 
 lesser_twice : (v w : ℕ) → lesser (2 * v) (2 * w) ≡ 2 * lesser v w
@@ -82,13 +83,9 @@ module _ (ms : List Bool) where
       turned r (from + n) 0 ∙ ap (λ w. 2 * w) (lightest_weight r (from + n) ∙ ap (weight r) (sym (drop-drop n from ms))) in
       inner l r from 0 ∙ rw (left, right)
 
-all_append : {X : Type 0} (P : X → Type 0) (xs ys : List X) → AllByRecursion P xs → AllByRecursion P ys → AllByRecursion P (xs ++ ys)
-all_append P [] ys p q = q
-all_append P (x ∷ xs) ys p q = (p.0, all_append P xs ys p.1 q)
-
 -- Each node lies within the block and has at most 12 turns, since a turn at least halves the length.
-within_by : (s : Shape) (from t len : ℕ) → LeftHeavy s → from + leaves s ≤ len → 2 ^ t * leaves s ≤ 4096 → AllByRecursion (Within len) (nodes s from t)
-within_by leaf from t len w h small = ((h, few_turns t (omega arith)), tt)
+within_by : (s : Shape) (from t len : ℕ) → LeftHeavy s → from + leaves s ≤ len → 2 ^ t * leaves s ≤ 4096 → All (Within len) (nodes s from t)
+within_by leaf from t len w h small = All-cons (Within len) _ [] (h, few_turns t (omega arith)) (All-nil (Within len))
 within_by (node l r) from t len w h small =
     let p = 2 ^ t in
     let next : t + 1 ≡ suc t = omega arith in
@@ -96,13 +93,45 @@ within_by (node l r) from t len w h small =
     let less : p * leaves r ≤ p * leaves l = mul-le-mul_left p w.0 in
     let double : 2 ^ suc t ≡ 2 * p = omega arith in
     let twice : 2 ^ (t + 1) * leaves r ≡ 2 * (p * leaves r) = ap (λ k. 2 ^ k * leaves r) next ∙ ap (λ q. q * leaves r) double ∙ mul_assoc 2 p (leaves r) in
-    let one : p * 1 ≤ p * (leaves l + leaves r) = mul-le-mul_left p (omega (arith, leaves_pos l)) in (
-      (h, few_turns t (omega arith)),
-      all_append (Within len) (nodes l from t) (nodes r (from + leaves l) (t + 1))
-          (within_by l from t len w.1 (omega arith) (omega arith)) (within_by r (from + leaves l) (t + 1) len w.2 (omega arith) (omega arith)),
-    )
+    let one : p * 1 ≤ p * (leaves l + leaves r) = mul-le-mul_left p (omega (arith, leaves_pos l)) in
+    All-cons (Within len) _ _
+    (h, few_turns t (omega arith))
+    (All-append (Within len) (nodes l from t) (nodes r (from + leaves l) (t + 1))
+    (within_by l from t len w.1 (omega arith) (omega arith)) (within_by r (from + leaves l) (t + 1) len w.2 (omega arith) (omega arith)))
 
-pub nodes_within : (n : ℕ) → 1 ≤ n → n ≤ 4096 → AllByRecursion (Within n) (reading_order n)
+pub nodes_within : (n : ℕ) → 1 ≤ n → n ≤ 4096 → All (Within n) (reading_order n)
 nodes_within n some short =
     let size = leaves_balanced n some in
     within_by (balanced n) 0 0 n (left_heavy_balanced n some) (omega arith) (omega arith)
+
+pub some_weight_is : (w : ℕ) → 0 < w → some_weight w ≡ Some w
+some_weight_is w some = grind (arith, nat_tests)
+
+-- one node more, where `fold` of the others from any weight is known
+least_step : (w l : ℕ) (ws : List ℕ) (a : ℕ) → 0 < a → ((b : ℕ) → 0 < b → fold min b ws ≡ lesser b l)
+    → fold min a (cons_option (some_weight w) ws) ≡ lesser a (lesser w l)
+least_step w l ws a pos rest =
+    ⊎_elim
+    (λ none. let zero : w ≡ 0 = omega arith in rw zero (rest a pos))
+    (λ some.
+    rw (some_weight_is w some) (rest (min a w) (omega arith) ∙ grind (arith, nat_tests)))
+    (cases_lt w 1)
+
+least_from : (ms : List Bool) (ns : List Node) (a : ℕ) → 0 < a → fold min a (filter_map (λ n. some_weight (node_weight ms n)) ns) ≡ lesser a (lightest ms ns)
+least_from ms [] a pos = sym (lesser_none a)
+least_from ms (n ∷ ns) a pos = least_step (node_weight ms n) (lightest ms ns) _ a pos (λ b h. least_from ms ns b h)
+
+least_first : (w l : ℕ) (ws : List ℕ) → reduce min ws ≡ some_weight l → ((b : ℕ) → 0 < b → fold min b ws ≡ lesser b l)
+    → reduce min (cons_option (some_weight w) ws) ≡ some_weight (lesser w l)
+least_first w l ws others rest =
+    ⊎_elim
+    (λ none. let zero : w ≡ 0 = omega arith in rw zero others)
+    (λ some.
+    let least : 0 < lesser w l = grind (arith, nat_tests) in
+    rw (some_weight_is w some) (ap Some (rest w some) ∙ sym (some_weight_is (lesser w l) least)))
+    (cases_lt w 1)
+
+-- the smallest of the weights that there are
+pub least_chosen : (ms : List Bool) (ns : List Node) → reduce min (filter_map (λ n. some_weight (node_weight ms n)) ns) ≡ some_weight (lightest ms ns)
+least_chosen ms [] = refl
+least_chosen ms (n ∷ ns) = least_first (node_weight ms n) (lightest ms ns) _ (least_chosen ms ns) (λ b h. least_from ms ns b h)

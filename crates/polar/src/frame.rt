@@ -1,6 +1,6 @@
 // What a walk keeps of the nodes on the way to the one it stands on.
-ghost use Rattle.std.specs.Prelude.{◌≡◌, ℕ};
-ghost use Rattle.polar.specs.Preorder.{kind_of, one_more, turning, Unfinished, RightAhead};
+ghost use Rattle.std.specs.Prelude.{◌≡◌, ℕ, ◌≤◌};
+ghost use Rattle.polar.specs.Preorder.{fresh, kind_of, one_more, turning, Unfinished, RightAhead};
 
 // A node of a block's tree: its length, the place of its first symbol, and its turns, the right branches between the root and it.
 #[derive(Clone, Copy, PartialEq, Eq, Debug)]
@@ -18,7 +18,7 @@ pub enum Done {
     Both,
 }
 
-#[derive(Clone, Copy)]
+#[derive(Clone, Copy, PartialEq, Eq)]
 pub(crate) enum Kind {
     Leaf,
     Inner,
@@ -33,6 +33,17 @@ pub struct Frame {
 }
 
 impl Frame {
+    // The record of a node that is entered.
+    pub(crate) fn new(len: usize, first: usize) -> Frame
+        ensures { result ≡ fresh len first }
+    {
+        Frame {
+            len,
+            first,
+            done: Done::Neither,
+        }
+    }
+
     pub(crate) fn kind(&self) -> Kind
         ensures { result ≡ kind_of self.now.len }
     {
@@ -45,12 +56,12 @@ impl Frame {
 
     // The turns that a walk below this node takes here: one where its left child is finished, which puts the walk into the right one.
     pub(crate) fn turn(&self) -> usize
-        ensures { result ≡ turning self.now }
+        ensures value { result ≡ turning self.now }
+        ensures few { result ≤ 1 }
     {
         match self.done {
-            Done::Neither => 0,
             Done::Left => 1,
-            Done::Both => 0,
+            Done::Neither | Done::Both => 0,
         }
     }
 
@@ -58,24 +69,14 @@ impl Frame {
     pub(crate) fn unfinished(&self) -> bool
         ensures { Unfinished self.now result }
     {
-        match (self.kind(), self.done) {
-            (Kind::Inner, Done::Neither) => true,
-            (Kind::Inner, Done::Left) => true,
-            (Kind::Inner, Done::Both) => false,
-            (Kind::Leaf, _) => false,
-        }
+        self.kind() == Kind::Inner && self.done != Done::Both
     }
 
     // Whether the right child is still ahead of a walk that is inside a child.
     pub(crate) fn right_ahead(&self) -> bool
         ensures { RightAhead self.now result }
     {
-        match (self.kind(), self.done) {
-            (Kind::Inner, Done::Neither) => true,
-            (Kind::Inner, Done::Left) => false,
-            (Kind::Inner, Done::Both) => false,
-            (Kind::Leaf, _) => false,
-        }
+        self.kind() == Kind::Inner && self.done == Done::Neither
     }
 
     // Notes that the child that the walk was in is finished.

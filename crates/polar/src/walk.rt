@@ -7,10 +7,14 @@ use crate::tree::children;
 
 pub mod moves;
 
+// The depths of the longest block's tree.
+const LEVELS: usize = 13;
+
 // A walk stands on one node. It keeps a frame for each node on the way from the root to that one, which lies at `depth`.
+// An array with its depth, and no Vec: a walk takes no memory but its own, with one frame for each of the at most 13 depths.
 #[derive(Drop)]
 pub struct Walk {
-    frames: [Frame; 13],
+    frames: [Frame; LEVELS],
     depth: usize,
     ghost sized: { length frames ≡ 13 },
     ghost shallow: { depth < 13 },
@@ -26,11 +30,7 @@ impl Walk {
         ensures frames { self.new.frames ≡ slice_set self.old.frames (self.old.depth + 1) (fresh len first) }
     {
         self.depth += 1;
-        self.frames[self.depth] = Frame {
-            len,
-            first,
-            done: Done::Neither,
-        };
+        self.frames[self.depth] = Frame::new(len, first);
     }
 
     // Leaves a finished node for its parent, which has one child more finished.
@@ -77,25 +77,14 @@ impl Walk {
         ensures value { result ≡ turned (take self.now.depth self.now.frames) }
         ensures few { result ≤ self.now.depth }
     {
-        let mut turns = 0;
-        for k in 0..self.depth {
-            turns += self.frames[k].turn();
-        }
-        turns
+        self.frames[..self.depth].iter().map(Frame::turn).sum()
     }
 
     // Whether a node is ahead.
     fn has_next(&self) -> bool
         ensures { More result (ahead self.now.frames self.now.depth) }
     {
-        if self.frames[self.depth].unfinished() {
-            return true;
-        }
-        for k in 0..self.depth {
-            if self.frames[k].right_ahead() {
-                return true;
-            }
-        }
-        false
+        self.frames[self.depth].unfinished()
+            || self.frames[..self.depth].iter().any(Frame::right_ahead)
     }
 }

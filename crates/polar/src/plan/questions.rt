@@ -56,6 +56,6 @@ impl Plan {
         ensures distance { MinimumDistance (tree_of (marks_of self.now)) (marks_of self.now) result }
         ensures leaves { LeafWeights (tree_of (marks_of self.now)) }
     {
-        least_weight(self.marks.as_slice())
+        least_weight(self.marks.as_slice()).unwrap()
     }
 }

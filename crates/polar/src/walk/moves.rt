@@ -1,13 +1,12 @@
 // The moves of a walk.
 ghost use Rattle.std.specs.Prelude.{◌≡◌, ◌+◌, ◌≤◌, [], ◌∷◌, ◌≢◌};
+ghost use Rattle.std.specs.Iterator.{YieldsFirst, item_count};
 ghost use Rattle.polar.specs.Walks.{current, remaining, Begun, WalkMade, Moved, ReadingOrder};
 
-use crate::frame::{Done, Frame, Node};
+use crate::frame::{Frame, Node};
 use crate::plan::MAX_LENGTH;
 use crate::refusal::Refusal;
-use crate::walk::Walk;
-
-const LEVELS: usize = 13;
+use crate::walk::{LEVELS, Walk};
 
 impl Walk {
     // A walk that stands on the root of the tree of `len` symbols.
@@ -26,13 +25,8 @@ impl Walk {
         requires short { len ≤ 4096 }
         ensures { Begun len result }
     {
-        let root = Frame {
-            len,
-            first: 0,
-            done: Done::Neither,
-        };
         Walk {
-            frames: [root; LEVELS],
+            frames: [Frame::new(len, 0); LEVELS],
             depth: 0,
         }
     }
@@ -53,6 +47,7 @@ impl Walk {
 
     // Moves to the next node in reading order and answers it; after the last leaf it answers none and stays.
     // Over a whole run the k-th answer is the k-th node in reading order.
+    #[tactic(auto, using(crate::proofs::Runs::reads_in_order))]
     pub fn advance(&mut self) -> Option<Node>
         ensures moved { Moved self.old result self.new }
         ensures order { ReadingOrder }
@@ -70,5 +65,18 @@ impl Walk {
         ensures { remaining self.old ≡ current self.new ∷ remaining self.new }
     {
         while !self.step() {}
+    }
+}
+
+// A walk's items are the nodes that it has yet to enter, in reading order.
+impl Iterator for Walk {
+    type Item = Node;
+
+    ghost next_gives = { YieldsFirst remaining };
+
+    ghost remaining = { item_count remaining };
+
+    fn next(&mut self) -> Option<Node> {
+        self.advance()
     }
 }

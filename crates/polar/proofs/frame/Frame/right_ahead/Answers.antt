@@ -1,16 +1,14 @@
-use Rattle.std.proofs.Common.{◌≡◌, sym}
+use Rattle.std.proofs.Common.{sym, ◌∙◌}
 use Rattle.polar.specs.Preorder.{one_more}
-use Rattle.polar.specs.declared.frame.Done.TheVariants.{Neither}
-use Rattle.polar.proofs.Walked.{kind_inner, kind_leaf, todo_leaf, some_right}
+use Rattle.polar.proofs.Walked.{inner_by, leaf_by, todo_leaf, right_ahead_inner}
 use Rattle.polar.proofs.frame.Frame.right_ahead.Goals as goal
 
-pub returns-in-Inner-Neither : goal.returns-in-Inner-Neither
-returns-in-Inner-Neither c =
+pub returns-then-eq : goal.returns-then-eq
+returns-then-eq c =
     let f = c.args.self.now in
-    let done : f.done ≡ Neither = c.in-Inner-Neither.is-1 in
-    rw done (λ t. some_right f.len f.first t (kind_inner f.len (sym c.in-Inner-Neither.ensures)))
+    rw c.eq-then-eq.ensures (right_ahead_inner f (inner_by f.len c.kind.result c.kind.ensures (sym c.eq.ensures ∙ c.if-eq.true)))
 
-pub returns-in-Leaf-default : goal.returns-in-Leaf-default
-returns-in-Leaf-default c =
+pub returns-else-eq : goal.returns-else-eq
+returns-else-eq c =
     let f = c.args.self.now in
-    λ t. todo_leaf t (one_more f) (kind_leaf f.len (sym c.in-Leaf-default.ensures))
+    rw c.if-eq.false (λ t. todo_leaf t (one_more f) (leaf_by f.len c.kind.result c.kind.ensures (sym c.eq.ensures ∙ c.if-eq.false)))

@@ -7,4 +7,4 @@ use Rattle.polar.proofs.walk.Walk.at_root.Goals as goal
 pub returns : goal.returns
 returns c =
     let n = c.args.len in
-    ap (λ z. node_at n 0 0 ∷ z) (append-nil (under (balanced n) 0 0)) ∙ sym (nodes_balanced n c.requires.some)
+    rw c.new.ensures (ap (λ z. node_at n 0 0 ∷ z) (append-nil (under (balanced n) 0 0)) ∙ sym (nodes_balanced n c.requires.some))

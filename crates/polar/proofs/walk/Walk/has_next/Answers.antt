@@ -1,21 +1,17 @@
-use Rattle.std.proofs.Common.{take, arith}
-use Rattle.polar.specs.Preorder.{turned}
-use Rattle.polar.proofs.Walked.{none_here, none_later, none_more}
+use Rattle.std.proofs.Common.{take, true, false, rules}
+use Rattle.std.proofs.lemmas.Iterator.{YieldsList-from_slice, cases_from_any}
+use Rattle.polar.specs.Preorder.{RightAhead}
+use Rattle.polar.proofs.Walked.{more_here, more_beside}
 use Rattle.polar.proofs.walk.Walk.has_next.Goals as goal
 
 pub returns-then-unfinished : goal.returns-then-unfinished
 returns-then-unfinished c =
     let walk = c.args.self.now in
-    λ none. c.if-unfinished.ensures (turned (take walk.depth walk.frames)) (none_here walk.frames walk.depth none)
+    rw c.if-unfinished.true (more_here walk.frames walk.depth c.if-unfinished.ensures)
 
-pub returns-then-right_ahead : goal.returns-then-right_ahead
-returns-then-right_ahead c =
+pub returns-else-unfinished : goal.returns-else-unfinished
+returns-else-unfinished c =
     let walk = c.args.self.now in
-    let k = c.loop-k.k in
-    λ none. c.if-right_ahead.ensures (turned (take k walk.frames)) (none_later walk.frames walk.depth k (omega arith) c.loop-k-test.true none)
-
-pub loop-k-preserved : goal.loop-k-preserved
-loop-k-preserved c =
-    let walk = c.args.self.now in
-    let k = c.loop-k.k in
-    none_more walk.frames k (omega arith) c.loop-k.invariant (c.if-right_ahead.ensures (turned (take k walk.frames)))
+    more_beside walk.frames walk.depth c.any.result c.if-unfinished.ensures
+    (cases_from_any _ _ _ (λ f. RightAhead f true) (λ f. RightAhead f false) c.any.ensures.ran
+    (YieldsList-from_slice (take walk.depth walk.frames) cc) (λ x q k. search rules) (λ x q k. search rules))
