@@ -1,7 +1,8 @@
 -- What one turn of a loop over marks or counts leaves to write. Assumes nothing.
-use Rattle.std.proofs.Common.{◌≡◌, ℕ, ◌+◌, ◌*◌, ◌^◌, ◌<◌, ◌≤◌, Bool, true, false, not, List, [], ◌∷◌, ◌++◌, map, length, get_or, drop, ℤ, pos, nat_abs, sym, refl, ap, ◌∙◌, subst, arith, length-append}
-use mathlib.Core.Bool.{beq}
-use Rattle.std.specs.List.{flat_map}
+use Rattle.std.proofs.Common.{◌≡◌, ℕ, ◌+◌, ◌*◌, ◌^◌, ◌<◌, ◌≤◌, Bool, true, false, not, ◌&&◌, leb, List, [], ◌∷◌, ◌++◌, map, length, get_or, drop, ℤ, pos, nat_abs, sym, refl, ap, ◌∙◌, subst, arith, length-append}
+use denote.Ref.{Bor}
+use mathlib.Core.Bool.{beq, and_assoc, and-true}
+use Rattle.std.specs.List.{flat_map, fold}
 use Rattle.std.proofs.lemmas.List.{at_drop_more, at_drop_all}
 use Rattle.std.proofs.lemmas.Bool.{and_parts, leb-true, true≢false, false≢true}
 use Rattle.storage.specs.Contents.{Content, all_small, Sound}
@@ -21,6 +22,11 @@ module _ (vs : List ℤ) (i : ℕ) (v : ℤ) (within : i < length vs) (is : v �
 
 pub no_count : (vs : List ℤ) (i : ℕ) → length vs ≤ i → flat_map number (map code (drop i vs)) ≡ []
 no_count vs i h = at_drop_all (λ l. flat_map number (map code l)) vs i h
+
+-- the counts of a run of references are tested one after another
+pub small_fold : (top : ℕ) (all : Bool) (items : List (Bor ℤ)) → fold (λ all v. all && leb (nat_abs v.now) top) all items ≡ (all && all_small top (map (λ v. v.now) items))
+small_fold top all [] = sym (and-true all)
+small_fold top all (v ∷ vs) = small_fold top (all && leb (nat_abs v.now) top) vs ∙ and_assoc all (leb (nat_abs v.now) top) (all_small top (map (λ v. v.now) vs))
 
 -- two bytes at most for each
 pub counts_short : (top : ℕ) (vs : List ℤ) → top < 2 ^ 13 → all_small top vs ≡ true → length (flat_map number (map code vs)) ≤ 2 * length vs

@@ -1,5 +1,5 @@
 -- Loading and storing: which refusal is due, and what an accepted call leaves. Assumes nothing.
-use Rattle.std.specs.Prelude.{◌≡◌, ℕ, ◌+◌, Bool, ◌&&◌, List, ◌++◌, length, take, drop, ℤ, Some, None, Ok, Err, Option, Result, ◌==◌, nat_le, nat_lt}
+use Rattle.std.specs.Prelude.{◌≡◌, ℕ, Bool, ◌&&◌, List, ◌++◌, length, take, drop, ℤ, Some, None, Ok, Err, Option, Result, ◌==◌, nat_le, nat_lt}
 use Rattle.polar.specs.declared.refusal.Refusal.{Refusal}
 use Rattle.polar.specs.declared.refusal.Refusal.TheVariants.{Marks, Range, Output, ItemCount}
 use Rattle.polar.specs.Refusals.{Outcome, refused_if, refused_unless, length_due}
@@ -59,7 +59,3 @@ pub record Put (top : ℕ) (c : Content) (before after : List ℕ) (n : ℕ) : T
 abbrev pub Stores : ℕ → Content → List ℕ → Result ℕ Refusal → List ℕ → Type 0
 Stores top c before answer after =
     Outcome (store_due top c (length before)) answer (Put top c before after) (after ≡ before)
-
--- `out` with `bytes` written over it from `at` on
-unfoldable pub overwritten : List ℕ → ℕ → List ℕ → List ℕ
-overwritten out at bytes = take at out ++ (bytes ++ drop (at + length bytes) out)
