@@ -83,21 +83,21 @@ unfolding runs_from
 other_mark true n ms = refl
 other_mark false n ms = refl
 
-whole_run : (r : ℕ) (m : Bool) (n : ℕ) (ms : List Bool) → runs_from m n (replicate r m ++ ms) ≡ runs_from m (n + r) ms
+pub whole_run : (r : ℕ) (m : Bool) (n : ℕ) (ms : List Bool) → runs_from m n (replicate r m ++ ms) ≡ runs_from m (n + r) ms
 whole_run zero m n ms = ap (λ k. runs_from m k ms) (let e : n ≡ n + 0 = omega arith in e)
 whole_run (suc r) m n ms =
     same_mark m n (replicate r m ++ ms) ∙ whole_run r m (n + 1) ms ∙ ap (λ k. runs_from m k ms) (let e : n + 1 + r ≡ n + suc r = omega arith in e)
 
 -- the runs of marks that begin a run of their own
-abbrev runs_behind : List Bool → List ℕ
+abbrev pub runs_behind : List Bool → List ℕ
 runs_behind [] = []
 runs_behind (m ∷ ms) = runs_from m 1 ms
 
-abbrev Starts : Bool → List Bool → Type 0
+abbrev pub Starts : Bool → List Bool → Type 0
 Starts mark [] = Unit {0}
 Starts mark (m ∷ ms) = m ≡ mark
 
-run_ends : (m : Bool) (n : ℕ) (ms : List Bool) → Starts (not m) ms → runs_from m n ms ≡ n ∷ runs_behind ms
+pub run_ends : (m : Bool) (n : ℕ) (ms : List Bool) → Starts (not m) ms → runs_from m n ms ≡ n ∷ runs_behind ms
 unfolding runs_from
 run_ends m n [] s = refl
 run_ends m n (x ∷ ms) s = ap (λ y. runs_from m n (y ∷ ms)) s ∙ other_mark m n ms ∙ ap (λ y. n ∷ runs_from y 1 ms) (sym s)

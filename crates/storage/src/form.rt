@@ -97,24 +97,18 @@ impl Form {
         self.push((n / 16384) as u8);
     }
 
-    // Writes the runs of `marks`.
+    // Writes the runs of `marks`: an active first mark comes after a frozen run of 0.
     fn push_runs(&mut self, marks: &[bool])
-        requires short { length marks.now ≤ 4096 }
+        requires sized { (0 < length marks.now) × (length marks.now ≤ 4096) }
         requires room { length self.old + length (flat_map number (runs marks.now)) ≤ LONGEST }
         ensures { self.new ≡ self.old ++ flat_map number (runs marks.now) }
     {
-        let mut mark = false;
-        let mut run = 0;
-        for m in marks {
-            if *m == mark {
-                run += 1;
-            } else {
-                self.push_number(run);
-                mark = *m;
-                run = 1;
-            }
+        if marks[0] {
+            self.push_number(0);
         }
-        self.push_number(run);
+        for run in marks.chunk_by(|a, b| a == b) {
+            self.push_number(run.len() as u32);
+        }
     }
 
     // Writes the codes of `counts`.

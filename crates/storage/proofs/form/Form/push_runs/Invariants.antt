@@ -1,9 +1,11 @@
-use Rattle.std.proofs.Common.{◌≡◌, ◌≤◌, ◌++◌, drop}
+use Rattle.std.proofs.Common.{◌≡◌, ◌≤◌, ◌++◌, length}
 use Rattle.std.specs.List.{flat_map}
-use Rattle.storage.specs.Stored.{number, runs_from, runs}
+use Rattle.std.specs.Slice.Iter.{chunk_by_rest}
+use Rattle.storage.specs.Stored.{number, runs}
+use Rattle.storage.proofs.RoundTrip.{runs_behind}
 use Rattle.storage.proofs.form.Form.push_runs.Given as goal
 
-abbrev pub invariant-loop-m : goal.invariant-loop-m
-invariant-loop-m l =
-    (l.run ≤ l.m-index)
-    × (l.self ++ flat_map number (runs_from l.mark l.run (drop l.m-index l.marks)) ≡ l.initial.self ++ flat_map number (runs l.marks))
+abbrev pub invariant-loop-run : goal.invariant-loop-run
+invariant-loop-run l =
+    let rest = chunk_by_rest l.run-iterator in
+    (length rest ≤ 4096) × (l.self ++ flat_map number (runs_behind rest) ≡ l.fn.self ++ flat_map number (runs l.marks))
