@@ -52,7 +52,7 @@ impl Cursor<'_> {
         }
         let b = self.bytes[self.at];
         self.at += 1;
-        Ok(b as u32)
+        Ok(u32::from(b))
     }
 
     // A number of at most three groups of seven bits, in its shortest form.
@@ -117,8 +117,8 @@ impl Cursor<'_> {
     pub(crate) fn counts(&mut self, counts: &mut [i16]) -> Result<(), Refusal>
         ensures { Fills (read_by (counts_at top_count (length counts.old)) self.old) result counts.new self.new }
     {
-        for i in 0..counts.len() {
-            counts[i] = decoded(self.field(0, 2 * TOP as u32)?);
+        for count in counts.iter_mut() {
+            *count = decoded(self.field(0, 2 * TOP as u32)?);
         }
         Ok(())
     }
