@@ -1,6 +1,6 @@
-use Rattle.std.proofs.Common.{ℕ, ◌-◌, ◌≤◌, true, ◌++◌, length, take}
+use Rattle.std.proofs.Common.{ℕ, ◌-◌, ◌≤◌, true, length, take}
 use Rattle.storage.specs.Cursors.{read_by}
-use Rattle.storage.specs.Reading.{mapped, later_runs_at}
+use Rattle.storage.specs.Reading.{later_runs_at}
 use Rattle.storage.proofs.Steps.{Pending}
 use Rattle.storage.proofs.cursor.Cursor.later_runs.Given as goal
 

@@ -1,4 +1,4 @@
-use Rattle.std.proofs.Common.{◌≡◌, false, length, replicate, ap, ◌∙◌, arith}
+use Rattle.std.proofs.Common.{◌≡◌, false, replicate, ap, ◌∙◌, arith}
 use Rattle.storage.proofs.Steps.{marks_refused, marks_follow, fills_exit, fills_behind}
 use Rattle.storage.proofs.cursor.Cursor.marks.Goals as goal
 
