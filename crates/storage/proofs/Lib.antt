@@ -5,5 +5,3 @@ pub mod Spelling
 pub mod Places
 pub mod Outcomes
 pub mod Turns
-pub mod Rows
-pub mod Dues

@@ -3,7 +3,7 @@ use Rattle.std.proofs.Common.{◌≡◌, ℕ, suc, ◌+◌, ◌-◌, ◌*◌, �
 use denote.Ref.{Bor}
 use mathlib.Core.Bool.{beq, and_assoc, and-true}
 use Rattle.std.specs.List.{flat_map, fold, IsChunkByPrefix}
-use Rattle.std.proofs.lemmas.List.{at_drop_more, at_drop_all}
+use Rattle.std.proofs.lemmas.List.{at_drop_more}
 use Rattle.std.proofs.lemmas.Bool.{and_parts, leb-true, true≢false, false≢true}
 use Rattle.storage.specs.Contents.{Content, all_small, Sound}
 use Rattle.storage.specs.Stored.{number, runs_from, runs, code, version, stored}
@@ -11,17 +11,8 @@ use Rattle.storage.proofs.Forms.{in_one, number_within, number_below}
 use Rattle.storage.proofs.RoundTrip.{same_mark, run_ends, runs_behind, code_small, in_parts, version_small}
 
 -- counts
-module _ (vs : List ℤ) (i : ℕ) (v : ℤ) (within : i < length vs) (is : v ≡ get_or vs i (pos 0)) where
-  pub next_count : flat_map number (map code (drop i vs)) ≡ number (code v) ++ flat_map number (map code (drop (i + 1) vs))
-  next_count = at_drop_more (λ l. flat_map number (map code l)) vs i (pos 0) within ∙ ap (λ w. number (code w) ++ flat_map number (map code (drop (i + 1) vs))) (sym is)
-
-  pub small_count : (top : ℕ) → all_small top (drop i vs) ≡ true → (nat_abs v ≤ top) × (all_small top (drop (i + 1) vs) ≡ true)
-  small_count top h =
-      let p = and_parts _ _ (sym (at_drop_more (all_small top) vs i (pos 0) within) ∙ h) in
-      (subst (λ w. nat_abs w ≤ top) (sym is) (leb-true _ top p.0), p.1)
-
-pub no_count : (vs : List ℤ) (i : ℕ) → length vs ≤ i → flat_map number (map code (drop i vs)) ≡ []
-no_count vs i h = at_drop_all (λ l. flat_map number (map code l)) vs i h
+pub next_count : (vs : List ℤ) (i : ℕ) (v : ℤ) → i < length vs → v ≡ get_or vs i (pos 0) → flat_map number (map code (drop i vs)) ≡ number (code v) ++ flat_map number (map code (drop (i + 1) vs))
+next_count vs i v within is = at_drop_more (λ l. flat_map number (map code l)) vs i (pos 0) within ∙ ap (λ w. number (code w) ++ flat_map number (map code (drop (i + 1) vs))) (sym is)
 
 -- the counts of a run of references are tested one after another
 pub small_fold : (top : ℕ) (all : Bool) (items : List (Bor ℤ)) → fold (λ all v. all && leb (nat_abs v.now) top) all items ≡ (all && all_small top (map (λ v. v.now) items))
