@@ -1,5 +1,5 @@
 -- What loading gives, by the first field that is refused. Assumes nothing.
-use Rattle.std.proofs.Common.{◌≡◌, ℕ, ◌<◌, Bool, List, [], ◌∷◌, get_or, ℤ, IsErrAnd, Ok, Err, Result, sym, refl, ap, ◌∙◌, arith, w8, Fits}
+use Rattle.std.proofs.Common.{◌≡◌, ℕ, ◌<◌, Bool, List, [], ◌∷◌, get_or, ℤ, IsErrAnd, Ok, Err, Result, sym, refl, ap, ◌∙◌, w8, Fits}
 use Rattle.std.proofs.ByRecursion.{All-from_get_or}
 use Rattle.std.proofs.lemmas.Result.{err_from_is_err_and}
 use Rattle.polar.specs.declared.refusal.Refusal.{Refusal}
@@ -53,12 +53,12 @@ at_start reader c bytes p q = λ i. reader (sym p i) (sym q i)
 
 -- at the end of the input nothing counts but whether bytes remain
 pub ends_alike : {A B : Type 0} (x : A) (y : B) (at : ℕ) (bytes : List ℕ) {r : Refusal} → Err r ≡ ended (got x at bytes) → ended (got y at bytes) ≡ Err r
-ends_alike x y at [] e = let z : ◌≡◌ {A = ℕ} 0 1 = cc in absurd (omega arith)
+ends_alike x y at [] e = cc
 ends_alike x y at (b ∷ bytes) e = cc
 
 pub ends_well : {A B : Type 0} (x x' : A) (y : B) (at : ℕ) (bytes : List ℕ) → Ok x' ≡ ended (got x at bytes) → ended (got y at bytes) ≡ Ok y
 ends_well x x' y at [] e = refl
-ends_well x x' y at (b ∷ bytes) e = let z : ◌≡◌ {A = ℕ} 0 1 = cc in absurd (omega arith)
+ends_well x x' y at (b ∷ bytes) e = cc
 
 -- the exit of a `?`
 pub refused_exit : {given : Result Content Refusal} (r : Result Content Refusal) {x : Refusal} → IsErrAnd r (λ y. y ≡ x) → given ≡ Err x → r ≡ given
