@@ -2,9 +2,10 @@
 use Rattle.std.proofs.Common.{◌≡◌, ℕ, suc, ◌+◌, ◌-◌, ◌*◌, ◌^◌, ◌<◌, ◌≤◌, Bool, true, false, not, ◌&&◌, leb, List, [], ◌∷◌, ◌++◌, map, length, get_or, drop, ℤ, pos, nat_abs, sym, refl, ap, ◌∙◌, subst, arith, add-one, length-append}
 use denote.Ref.{Bor}
 use mathlib.Core.Bool.{beq, and_assoc, and-true}
+use Rattle.std.specs.Cmp.{booleans_Decides}
 use Rattle.std.specs.List.{flat_map, fold, IsChunkByPrefix}
 use Rattle.std.proofs.lemmas.List.{at_drop_more}
-use Rattle.std.proofs.lemmas.Bool.{and_parts, leb-true, true≢false, false≢true}
+use Rattle.std.proofs.lemmas.Bool.{and_parts, leb-true}
 use Rattle.storage.specs.Contents.{Content, all_small, Sound}
 use Rattle.storage.specs.Stored.{number, runs_from, runs, code, version, stored}
 use Rattle.storage.proofs.Forms.{in_one, number_within, number_below}
@@ -29,16 +30,13 @@ counts_short top (v ∷ vs) few h =
 
 -- runs
 beq_same : (x y : Bool) → beq x y ≡ true → x ≡ y
-beq_same true true e = refl
-beq_same true false e = absurd (false≢true e)
-beq_same false true e = absurd (false≢true e)
-beq_same false false e = refl
+beq_same x y e = (booleans_Decides x y).0 e
 
 beq_other : (x y : Bool) → beq x y ≡ false → y ≡ not x
-beq_other true true e = absurd (true≢false e)
+beq_other true true e = cc
 beq_other true false e = refl
 beq_other false true e = refl
-beq_other false false e = absurd (true≢false e)
+beq_other false false e = cc
 
 -- the marks after a first mark x, which goes with those of xs and not with the next: what comes after them begins a run
 chunk_run : (x : Bool) (xs ys : List Bool) (k : ℕ) → IsChunkByPrefix beq (x ∷ (xs ++ ys)) (length xs + 1) → runs_from x k (xs ++ ys) ≡ (k + length xs) ∷ runs_behind ys
@@ -64,12 +62,12 @@ pub runs_active : (ms : List Bool) → 0 < length ms → get_or ms 0 false ≡ t
 unfolding runs_from
 runs_active [] some e = absurd (omega arith)
 runs_active (true ∷ ms) some e = refl
-runs_active (false ∷ ms) some e = absurd (false≢true e)
+runs_active (false ∷ ms) some e = cc
 
 pub runs_frozen : (ms : List Bool) → 0 < length ms → get_or ms 0 false ≡ false → runs ms ≡ runs_behind ms
 unfolding runs_from
 runs_frozen [] some e = absurd (omega arith)
-runs_frozen (true ∷ ms) some e = absurd (true≢false e)
+runs_frozen (true ∷ ms) some e = cc
 runs_frozen (false ∷ ms) some e = refl
 
 -- a run takes no more bytes than it has marks, an empty one takes one
