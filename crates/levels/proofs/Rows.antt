@@ -1,7 +1,11 @@
 -- Rows of counts and levels: one element more, and the way there and back. Assumes nothing.
 use Rattle.std.proofs.Common.{◌≡◌, ℕ, zero, suc, ◌+◌, ◌^◌, ◌<◌, ◌≤◌, Bool, true, false, not, ◌&&◌, List, [], ◌∷◌, ◌++◌, map, length, get_or, take, drop, set, ℤ, Some, None, Ok, Err, Option, sym, refl, ap, ◌∙◌, arith, eq-eqb}
 use lib.Ieee.{Float, nan, inf, fin, is_nan}
-use Rattle.std.proofs.lemmas.List.{append_assoc, length-map, length-take-le, set_at, drop_more, map_more, map_push, take_more_set, take_all, at_drop_more}
+use Rattle.std.proofs.lemmas.List.{append_assoc, length-map, length-take-le, set_at, drop_more, map_more, map_push, take_more_set, take_all}
+use denote.Ref.{Bor}
+use Rattle.std.specs.Bool.{MatchBool}
+use Rattle.std.specs.Option.{option_map, IfSome, IsSomeAnd}
+use Rattle.std.proofs.lemmas.Bool.{and_right}
 use Rattle.polar.specs.declared.refusal.Refusal.TheVariants.{Range, ItemCount}
 use Rattle.polar.specs.Refusals.{refused_unless}
 use Rattle.levels.specs.Rounding.{nearest}
@@ -35,9 +39,30 @@ read_more g xs cs i d c l m h e =
 pub read_all : (g : Float → Option ℤ) (xs : List Float) (cs : List ℤ) (i : ℕ) → i ≡ length xs → length cs ≡ i → map Some (take i cs) ≡ map g (take i xs) → map Some cs ≡ map g xs
 read_all g xs cs i n m h = sym (ap (map Some) (take_all i cs (omega arith))) ∙ h ∙ ap (map g) (take_all i xs (omega arith))
 
--- the levels from place i on are numbers where the first is one, and those after it
-pub numbers_from : (xs : List Float) (i : ℕ) (d : Float) (b : Bool) → i < length xs → b ≡ is_nan (get_or xs i d) → all_are_numbers (drop i xs) ≡ (not b && all_are_numbers (drop (i + 1) xs))
-numbers_from xs i d b l h = at_drop_more all_are_numbers xs i d l ∙ ap (λ (v : Bool). not v && all_are_numbers (drop (i + 1) xs)) (sym h)
+-- a row is one of numbers where each level is one, and not where some is none
+pub numbers_all : (xs : List Float) → ((k : ℕ) (d : Float) → k < length xs → is_nan (get_or xs k d) ≡ false) → all_are_numbers xs ≡ true
+numbers_all [] h = refl
+numbers_all (x ∷ xs) h = rw (h 0 x (omega arith)) (numbers_all xs (λ k d l. h (suc k) d (omega arith)))
+
+pub numbers_not : (xs : List Float) (k : ℕ) (d : Float) → k < length xs → is_nan (get_or xs k d) ≡ true → all_are_numbers xs ≡ false
+numbers_not [] k d l h = absurd (omega arith)
+numbers_not (x ∷ xs) zero d l h = rw h
+numbers_not (x ∷ xs) (suc k) d l h = and_right _ _ (numbers_not xs k d (omega arith) h)
+
+-- a test of all levels
+pub tested : (b : Bool) (xs : List Float) {P Q : Type 0} → MatchBool b P Q → (P → all_are_numbers xs ≡ true) → (Q → all_are_numbers xs ≡ false) → b ≡ all_are_numbers xs
+tested true xs m p q = sym (p m)
+tested false xs m p q = sym (q m)
+
+-- a level that a run came to
+module _ {P : Bor Float → Type 0} (v : Float) (b : Bool) (says : (x : Bor Float) → P x → is_nan x.now ≡ b) where
+  pub seen_if : (o : Option (Bor Float)) → option_map (λ x. x.now) o ≡ Some v → IfSome o P → is_nan v ≡ b
+  seen_if None e h = let z : ◌≡◌ {A = ℕ} 0 1 = cc in absurd (omega arith)
+  seen_if (Some x) e h = let same : v ≡ x.now = cc in ap is_nan same ∙ says x h
+
+  pub seen_and : (o : Option (Bor Float)) → option_map (λ x. x.now) o ≡ Some v → IsSomeAnd o P → is_nan v ≡ b
+  seen_and None e h = absurd h
+  seen_and (Some x) e h = let same : v ≡ x.now = cc in ap is_nan same ∙ says x h
 
 -- a level of a row of numbers is a number
 pub number_at : (xs : List Float) (i : ℕ) (d : Float) → i < length xs → all_are_numbers xs ≡ true → is_nan (get_or xs i d) ≡ false

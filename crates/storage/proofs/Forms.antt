@@ -1,13 +1,12 @@
--- A number and its bytes determine each other: what is written is read back, and what is read was written so.
--- Assumes nothing.
+-- The bytes of a number, and what is written is read back. Assumes nothing.
 use Rattle.std.proofs.Common.{◌≡◌, ℕ, zero, suc, ◌+◌, ◌-◌, ◌*◌, ◌/◌, ◌%◌, ◌^◌, ◌<◌, ◌≤◌, true, false, cond, ◌&&◌, ltb, leb, ◌⊎◌, List, [], ◌∷◌, ◌++◌, length, sym, refl, ap, ◌∙◌, subst, inl, inr, ⊎_elim, arith}
 use Rattle.storage.specs.Laws.{Bytes}
-use Rattle.std.proofs.lemmas.Bool.{lt-ltb, le-ltb, eq-eqb, ne_eqb, and_parts, leb-true, cond-true, cond-false, cond_both, cases_lt, cases_eq, cases_Bool}
+use Rattle.std.proofs.lemmas.Bool.{lt-ltb, le-ltb, ne_eqb, and_parts, leb-true, cond-true, cond-false, cond_both, cases_lt, cases_Bool}
 use Rattle.polar.specs.declared.refusal.Refusal.{Refusal}
 use Rattle.polar.specs.declared.refusal.Refusal.TheVariants.{FieldRule}
 use Rattle.storage.specs.Stored.{groups, number}
-use Rattle.storage.specs.Reading.{Read, Reader, got, refused, then, mapped, closing, byte_at, number_at, field_at}
-use Rattle.storage.proofs.Steps.{number_cut, number_one, number_cut_two, number_two, number_cut_three, number_three, number_long, field_kept}
+use Rattle.storage.specs.Reading.{Read, Reader, got, refused, then, mapped, byte_at, number_at, field_at}
+use Rattle.storage.proofs.Steps.{number_one, number_two, number_three, field_kept}
 
 -- the reading gives x, and `rest` follows
 abbrev pub Gets : {A : Type 0} → Read A → A → List ℕ → Type 0
@@ -15,7 +14,7 @@ Gets read x rest = (at : ℕ) × (read ≡ got x at rest)
 
 -- what was read is read once, and is no refusal
 pub never_refused : {A : Type 0} {x : A} {at : ℕ} {rest : List ℕ} {r : Refusal} → refused r ≡ got x at rest → ⊥
-never_refused e = let z : ◌≡◌ {A = ℕ} 0 1 = cc in omega arith
+never_refused e = cc
 
 pub got_value : {A : Type 0} {x y : A} {at at' : ℕ} {rest rest' : List ℕ} → got x at rest ≡ got y at' rest' → x ≡ y
 got_value e = cc
@@ -128,85 +127,9 @@ number_read n at rest h =
     let s = number_shaped n h in
     rw (shaped_number n s.0 s.1) (shaped_read n s.0 at rest s.1)
 
--- what is read was written
-
 pub bytes_after : (xs ys : List ℕ) → Bytes (xs ++ ys) → Bytes ys
 bytes_after [] ys h = h
 bytes_after (x ∷ xs) ys h = bytes_after xs ys h.1
-
-pub record Written (n : ℕ) (bytes rest : List ℕ) : Type 0 where
-  pub form : List ℕ
-  pub shaped : Shaped n form
-  pub whole : bytes ≡ form ++ rest
-
-read_one : (a at : ℕ) (bytes : List ℕ) (n at' : ℕ) (rest : List ℕ) → a < 128 → number_at at (a ∷ bytes) ≡ got n at' rest → Written n (a ∷ bytes) rest
-unfolding byte_at
-read_one a at bytes n at' rest h e =
-    let s = sym (number_one at (a ∷ bytes) refl h) ∙ e in
-    record { form = a ∷ []; shaped = subst (λ m. Shaped m (a ∷ [])) (got_value s) (one a h); whole = ap (λ l. a ∷ l) (got_rest s) }
-
-read_two : (a b at : ℕ) (bytes : List ℕ) (n at' : ℕ) (rest : List ℕ) → a < 256 → 128 ≤ a → b < 128 → number_at at (a ∷ b ∷ bytes) ≡ got n at' rest → Written n (a ∷ b ∷ bytes) rest
-unfolding byte_at
-read_two a b at bytes n at' rest small more h e = by (cases_eq b 0)
-  where
-    s : closing at b (a - 128 + 128 * b) (at + 1 + 1) bytes ≡ got n at' rest
-    s = sym (number_two at (a ∷ b ∷ bytes) refl more refl h) ∙ e
-
-    back : 128 + (a - 128) ≡ a
-    back = omega arith
-
-    by : (b ≡ 0) ⊎ (b ≡ 0 → ⊥) → Written n (a ∷ b ∷ bytes) rest
-    by (inl z) = absurd (never_refused (sym (cond-true _ _ _ (eq-eqb b 0 z)) ∙ s))
-    by (inr z) =
-        let t = sym (cond-false _ _ _ (ne_eqb b 0 z)) ∙ s in
-        record {
-          form = (128 + (a - 128)) ∷ b ∷ [];
-          shaped = subst (λ m. Shaped m ((128 + (a - 128)) ∷ b ∷ [])) (got_value t) (two (a - 128) b (omega arith) (omega arith) h);
-          whole = ap (λ x. x ∷ b ∷ bytes) (sym back) ∙ ap (λ l. (128 + (a - 128)) ∷ b ∷ l) (got_rest t);
-        }
-
-read_three : (a b c at : ℕ) (bytes : List ℕ) (n at' : ℕ) (rest : List ℕ) → a < 256 → 128 ≤ a → b < 256 → 128 ≤ b → c < 128 → number_at at (a ∷ b ∷ c ∷ bytes) ≡ got n at' rest → Written n (a ∷ b ∷ c ∷ bytes) rest
-unfolding byte_at
-read_three a b c at bytes n at' rest small more small' more' h e = by (cases_eq c 0)
-  where
-    s : closing at c (a - 128 + 128 * (b - 128) + 16384 * c) (at + 1 + 1 + 1) bytes ≡ got n at' rest
-    s = sym (number_three at (a ∷ b ∷ c ∷ bytes) refl more refl more' refl h) ∙ e
-
-    back : 128 + (a - 128) ≡ a
-    back = omega arith
-
-    also : 128 + (b - 128) ≡ b
-    also = omega arith
-
-    by : (c ≡ 0) ⊎ (c ≡ 0 → ⊥) → Written n (a ∷ b ∷ c ∷ bytes) rest
-    by (inl z) = absurd (never_refused (sym (cond-true _ _ _ (eq-eqb c 0 z)) ∙ s))
-    by (inr z) =
-        let t = sym (cond-false _ _ _ (ne_eqb c 0 z)) ∙ s in
-        record {
-          form = (128 + (a - 128)) ∷ (128 + (b - 128)) ∷ c ∷ [];
-          shaped = subst (λ m. Shaped m ((128 + (a - 128)) ∷ (128 + (b - 128)) ∷ c ∷ [])) (got_value t) (three (a - 128) (b - 128) c (omega arith) (omega arith) (omega arith) h);
-          whole = ap (λ x. x ∷ b ∷ c ∷ bytes) (sym back) ∙ ap (λ x. (128 + (a - 128)) ∷ x ∷ c ∷ bytes) (sym also) ∙ ap (λ l. (128 + (a - 128)) ∷ (128 + (b - 128)) ∷ c ∷ l) (got_rest t);
-        }
-
-written : (at : ℕ) (bytes : List ℕ) (n at' : ℕ) (rest : List ℕ) → Bytes bytes → number_at at bytes ≡ got n at' rest → Written n bytes rest
-unfolding byte_at
-written at [] n at' rest small e = absurd (never_refused (sym (number_cut at [] refl) ∙ e))
-written at (a ∷ []) n at' rest small e =
-    ⊎_elim (λ h. read_one a at [] n at' rest h e) (λ h. absurd (never_refused (sym (number_cut_two at (a ∷ []) refl h refl) ∙ e))) (cases_lt a 128)
-written at (a ∷ b ∷ []) n at' rest small e =
-    ⊎_elim (λ h. read_one a at (b ∷ []) n at' rest h e)
-    (λ h. ⊎_elim (λ k. read_two a b at [] n at' rest small.0 h k e)
-    (λ k. absurd (never_refused (sym (number_cut_three at (a ∷ b ∷ []) refl h refl k refl) ∙ e))) (cases_lt b 128)) (cases_lt a 128)
-written at (a ∷ b ∷ c ∷ bytes) n at' rest small e =
-    ⊎_elim (λ h. read_one a at (b ∷ c ∷ bytes) n at' rest h e)
-    (λ h. ⊎_elim (λ k. read_two a b at (c ∷ bytes) n at' rest small.0 h k e)
-    (λ k. ⊎_elim (λ l. read_three a b c at bytes n at' rest small.0 h small.1.0 k l e)
-    (λ l. absurd (never_refused (sym (number_long at (a ∷ b ∷ c ∷ bytes) refl h refl k refl l) ∙ e))) (cases_lt c 128)) (cases_lt b 128)) (cases_lt a 128)
-
-pub number_written : (at : ℕ) (bytes : List ℕ) (n at' : ℕ) (rest : List ℕ) → Bytes bytes → number_at at bytes ≡ got n at' rest → bytes ≡ number n ++ rest
-number_written at bytes n at' rest small e =
-    let w = written at bytes n at' rest small e in
-    w.whole ∙ ap (λ f. f ++ rest) (sym (shaped_number n w.form w.shaped))
 
 -- a field is written and read as its number, within its bounds
 pub field_read : (low high n at : ℕ) (rest : List ℕ) → n < 2 ^ 21 → low ≤ n → n ≤ high → Gets (field_at low high at (number n ++ rest)) n rest
@@ -235,13 +158,3 @@ field_bounded low high at bytes n at' rest e = by (cases_Bool (leb low v.value &
           most = subst (λ x. x ≤ high) (got_value g) (leb-true v.value high p.1);
         }
     by (inr f) = absurd (never_refused (sym (cond-false _ _ _ f) ∙ v.goes))
-
-pub record FieldWritten (low high n : ℕ) (bytes rest : List ℕ) : Type 0 where
-  pub whole : bytes ≡ number n ++ rest
-  pub least : low ≤ n
-  pub most : n ≤ high
-
-pub field_written : (low high at : ℕ) (bytes : List ℕ) (n at' : ℕ) (rest : List ℕ) → Bytes bytes → field_at low high at bytes ≡ got n at' rest → FieldWritten low high n bytes rest
-field_written low high at bytes n at' rest small e =
-    let f = field_bounded low high at bytes n at' rest e in
-    record { whole = number_written at bytes n at' rest small f.is; least = f.least; most = f.most }

@@ -4,7 +4,4 @@ pub mod RoundTrip
 pub mod Spelling
 pub mod Places
 pub mod Outcomes
-pub mod Puts
 pub mod Turns
-pub mod Rows
-pub mod Dues

@@ -1,16 +1,16 @@
 -- What loading gives, by the first field that is refused. Assumes nothing.
-use Rattle.std.proofs.Common.{◌≡◌, ℕ, ◌<◌, Bool, List, [], ◌∷◌, get_or, ℤ, IsErrAnd, Some, Ok, Err, Result, sym, refl, ap, ◌∙◌, subst, arith, w8, Fits}
+use Rattle.std.proofs.Common.{◌≡◌, ℕ, ◌<◌, Bool, List, [], ◌∷◌, get_or, ℤ, IsErrAnd, Ok, Err, Result, sym, refl, ap, ◌∙◌, w8, Fits}
 use Rattle.std.proofs.ByRecursion.{All-from_get_or}
 use Rattle.std.proofs.lemmas.Result.{err_from_is_err_and}
 use Rattle.polar.specs.declared.refusal.Refusal.{Refusal}
 use Rattle.storage.specs.declared.cursor.Cursor.{Cursor}
-use Rattle.storage.specs.declared.loading.Header.{Header}
-use Rattle.storage.specs.Contents.{content_of}
+use Rattle.storage.specs.Contents.{Content, content_of}
 use Rattle.storage.specs.Stored.{version}
 use Rattle.storage.specs.Reading.{Reader, got, refused, ended, field_at, marks_at, counts_at, content_at, outcome}
 use Rattle.storage.specs.Cursors.{rest, read_by}
 use Rattle.storage.specs.Laws.{Bytes}
-use Rattle.storage.specs.Calls.{Fronts, refusal_in, Loaded}
+use Rattle.storage.specs.Calls.{refusal_in, Loaded}
+use Rattle.storage.proofs.RoundTrip.{accepts_only_what_is_stored}
 use Rattle.storage.proofs.Steps.{then_got, then_refused}
 
 module _ (top : ℕ) (bytes : List ℕ) where
@@ -53,23 +53,23 @@ at_start reader c bytes p q = λ i. reader (sym p i) (sym q i)
 
 -- at the end of the input nothing counts but whether bytes remain
 pub ends_alike : {A B : Type 0} (x : A) (y : B) (at : ℕ) (bytes : List ℕ) {r : Refusal} → Err r ≡ ended (got x at bytes) → ended (got y at bytes) ≡ Err r
-ends_alike x y at [] e = let z : ◌≡◌ {A = ℕ} 0 1 = cc in absurd (omega arith)
+ends_alike x y at [] e = cc
 ends_alike x y at (b ∷ bytes) e = cc
 
 pub ends_well : {A B : Type 0} (x x' : A) (y : B) (at : ℕ) (bytes : List ℕ) → Ok x' ≡ ended (got x at bytes) → ended (got y at bytes) ≡ Ok y
 ends_well x x' y at [] e = refl
-ends_well x x' y at (b ∷ bytes) e = let z : ◌≡◌ {A = ℕ} 0 1 = cc in absurd (omega arith)
+ends_well x x' y at (b ∷ bytes) e = cc
 
 -- the exit of a `?`
-pub fronts_exit : (top : ℕ) (bytes : List ℕ) (ms : List Bool) (vs : List ℤ) (r : Result Header Refusal) {x : Refusal} → IsErrAnd r (λ y. y ≡ x) → outcome top bytes ≡ Err x → Fronts top bytes r ms vs
-fronts_exit top bytes ms vs r by e =
-    let p = err_from_is_err_and r by in
-    subst (λ r. Fronts top bytes r ms vs) (sym p.1) (e ∙ ap Err (sym p.2))
+pub refused_exit : {given : Result Content Refusal} (r : Result Content Refusal) {x : Refusal} → IsErrAnd r (λ y. y ≡ x) → given ≡ Err x → r ≡ given
+refused_exit r by e = let p = err_from_is_err_and r by in p.1 ∙ ap Err p.2 ∙ sym e
 
-pub loaded_exit : (top : ℕ) (bytes : List ℕ) (ms : List Bool) (vs : List ℤ) (r : Result Header Refusal) {x : Refusal} → IsErrAnd r (λ y. y ≡ x) → outcome top bytes ≡ Err x → Loaded top bytes ms vs r ms vs
-loaded_exit top bytes ms vs r by e =
-    let p = err_from_is_err_and r by in
-    subst (λ r. Loaded top bytes ms vs r ms vs) (sym p.1) (ap refusal_in e ∙ ap Some (sym p.2), (refl, refl))
+-- what a load of these bytes owes, where its answer is what reading gives
+pub loaded_is : (top : ℕ) (bytes : List ℕ) (r : Result Content Refusal) → Bytes bytes → r ≡ outcome top bytes → Loaded top bytes r
+loaded_is top bytes (Ok c) small e =
+    let law = accepts_only_what_is_stored top bytes c small (sym e) in
+    (ap refusal_in (sym e), record { given = sym e; same = law.1; sound = law.0 })
+loaded_is top bytes (Err x) small e = (ap refusal_in (sym e), tt)
 
 -- what a slice of bytes holds
 pub bytes_of : (bytes : List ℕ) → ((i : ℕ) → Fits w8 (get_or bytes i 0)) → Bytes bytes

@@ -85,7 +85,7 @@ content_moves top n at bytes e =
     moves_then 0 0 n (counts_at top len at₄ bytes₄) _ (counts_move top len n at₄ bytes₄ e₄) (λ _ at₅ bytes₅ l₅ e₅. (l₅, e₅))))))
 
 ended_placed : {A : Type 0} (low n : ℕ) (read : Read A) (r : Refusal) → Moves low n read → ended read ≡ Err r → Placed n r
-ended_placed low n (got x at []) r m e = let z : ◌≡◌ {A = ℕ} 0 1 = cc in absurd (omega arith)
+ended_placed low n (got x at []) r m e = cc
 ended_placed low n (got x at (b ∷ rest)) r m e =
     let s : BytesRemain at ≡ r = cc in
     subst (λ r. Placed n r) s (remain at (omega arith))

@@ -3,13 +3,15 @@ use Rattle.std.proofs.Common.{◌≡◌, ℕ, zero, suc, ◌+◌, ◌-◌, ◌*�
 use lib.ListN.{length-replicate}
 use Rattle.std.specs.List.{flat_map}
 use Rattle.std.proofs.lemmas.Bool.{eq-eqb, ne_eqb, le-leb, leb-true, and_from, and_parts, cond-true, cond-false, cond_both, cases_eq}
+use Rattle.std.proofs.lemmas.Grind.{flat_map-append}
 use Rattle.polar.specs.Words.{trues}
 use Rattle.storage.specs.Contents.{Content, content_of, top_count, all_small, Sound}
 use Rattle.storage.specs.Stored.{number, runs_from, runs, code, version, fields, stored}
 use Rattle.storage.specs.Reading.{Read, got, refused, mapped, ended, field_at, later_runs_at, marks_at, counts_at, coded_count, content_at, outcome}
 use Rattle.storage.specs.Laws.{Bytes, LoadsWhatIsStored, AcceptsOnlyWhatIsStored}
 use Rattle.storage.proofs.Steps.{then_got, runs_more, runs_all, marks_first}
-use Rattle.storage.proofs.Forms.{Gets, never_refused, got_value, got_rest, via, unmapped, bytes_after, field_read, FieldWritten, field_written}
+use Rattle.storage.proofs.Forms.{Gets, never_refused, got_value, got_rest, via, unmapped, bytes_after, field_read}
+use Rattle.storage.proofs.Spelling.{FieldWritten, field_written}
 
 -- the codes of counts
 pub count_of_code : (v : ℤ) → coded_count (code v) ≡ v
@@ -83,21 +85,21 @@ unfolding runs_from
 other_mark true n ms = refl
 other_mark false n ms = refl
 
-whole_run : (r : ℕ) (m : Bool) (n : ℕ) (ms : List Bool) → runs_from m n (replicate r m ++ ms) ≡ runs_from m (n + r) ms
+pub whole_run : (r : ℕ) (m : Bool) (n : ℕ) (ms : List Bool) → runs_from m n (replicate r m ++ ms) ≡ runs_from m (n + r) ms
 whole_run zero m n ms = ap (λ k. runs_from m k ms) (let e : n ≡ n + 0 = omega arith in e)
 whole_run (suc r) m n ms =
     same_mark m n (replicate r m ++ ms) ∙ whole_run r m (n + 1) ms ∙ ap (λ k. runs_from m k ms) (let e : n + 1 + r ≡ n + suc r = omega arith in e)
 
 -- the runs of marks that begin a run of their own
-abbrev runs_behind : List Bool → List ℕ
+abbrev pub runs_behind : List Bool → List ℕ
 runs_behind [] = []
 runs_behind (m ∷ ms) = runs_from m 1 ms
 
-abbrev Starts : Bool → List Bool → Type 0
+abbrev pub Starts : Bool → List Bool → Type 0
 Starts mark [] = Unit {0}
 Starts mark (m ∷ ms) = m ≡ mark
 
-run_ends : (m : Bool) (n : ℕ) (ms : List Bool) → Starts (not m) ms → runs_from m n ms ≡ n ∷ runs_behind ms
+pub run_ends : (m : Bool) (n : ℕ) (ms : List Bool) → Starts (not m) ms → runs_from m n ms ≡ n ∷ runs_behind ms
 unfolding runs_from
 run_ends m n [] s = refl
 run_ends m n (x ∷ ms) s = ap (λ y. runs_from m n (y ∷ ms)) s ∙ other_mark m n ms ∙ ap (λ y. n ∷ runs_from y 1 ms) (sym s)
@@ -210,10 +212,6 @@ marks_written n at bytes ms at' rest some b e =
     subst (λ l. MarksWritten n l bytes rest) (sym u.2) (split_written n v.value u.0 bytes v.bytes rest some f w)
 
 -- whole contents
-joined_append : (ns ks : List ℕ) → flat_map number (ns ++ ks) ≡ flat_map number ns ++ flat_map number ks
-joined_append [] ks = refl
-joined_append (n ∷ ns) ks = ap (λ l. number n ++ l) (joined_append ns ks) ∙ sym (append_assoc (number n) (flat_map number ns) (flat_map number ks))
-
 -- the stored form, field by field, and then `rest`
 abbrev pub parts : ℕ → ℕ → Content → List ℕ → List ℕ
 parts first n c rest = number first ++ (number n ++ (number c.exponent ++ (flat_map number (runs c.marks) ++ (flat_map number (map code c.counts) ++ rest))))
@@ -227,7 +225,7 @@ in_parts_then top c rest =
     joins (version top) (n ∷ k ∷ (runs c.marks ++ coded)) rest
     ∙ ap (λ l. number (version top) ++ l) (joins n (k ∷ (runs c.marks ++ coded)) rest
     ∙ ap (λ l. number n ++ l) (joins k (runs c.marks ++ coded) rest
-    ∙ ap (λ l. number k ++ l) (ap (λ l. l ++ rest) (joined_append (runs c.marks) coded) ∙ append_assoc (flat_map number (runs c.marks)) (flat_map number coded) rest)))
+    ∙ ap (λ l. number k ++ l) (ap (λ l. l ++ rest) (flat_map-append number (runs c.marks) coded) ∙ append_assoc (flat_map number (runs c.marks)) (flat_map number coded) rest)))
 
 pub in_parts : (top : ℕ) (c : Content) → stored top c ≡ parts (version top) (length c.marks) c []
 in_parts top c = sym (append-nil (stored top c)) ∙ in_parts_then top c []
@@ -302,8 +300,8 @@ content_written top at bytes c at' rest b e =
 
 ended_ok : {A : Type 0} (r : Read A) (x : A) → ended r ≡ Ok x → Gets r x []
 ended_ok (got y at []) x e = (at, cc)
-ended_ok (got y at (b ∷ bytes)) x e = let z : ◌≡◌ {A = ℕ} 0 1 = cc in absurd (omega arith)
-ended_ok (refused r) x e = let z : ◌≡◌ {A = ℕ} 0 1 = cc in absurd (omega arith)
+ended_ok (got y at (b ∷ bytes)) x e = cc
+ended_ok (refused r) x e = cc
 
 pub accepts_only_what_is_stored : (top : ℕ) → AcceptsOnlyWhatIsStored top
 unfolding outcome

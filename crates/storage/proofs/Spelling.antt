@@ -1,10 +1,12 @@
--- A number is read where its form stands, the input ends within a form, or there is no form. Assumes nothing.
+-- A number is read where its form stands, the input ends within a form, or there is no form; so what is read was written.
+-- Assumes nothing.
 use Rattle.std.proofs.Common.{◌≡◌, ℕ, ◌+◌, ◌-◌, ◌*◌, ◌^◌, ◌<◌, ◌≤◌, List, [], ◌∷◌, ◌++◌, length, sym, refl, ap, ◌∙◌, subst, inl, inr, ⊎_elim, arith}
 use Rattle.std.proofs.lemmas.Bool.{eq-eqb, ne_eqb, cond-true, cond-false, cases_lt, cases_eq}
 use Rattle.polar.specs.declared.refusal.Refusal.TheVariants.{InputEnds}
-use Rattle.storage.specs.Reading.{Read, got, byte_at, number_at}
-use Rattle.storage.specs.Laws.{Cut, Formless, Says, NumbersAreRead}
-use Rattle.storage.proofs.Forms.{Shaped, one, two, three, shaped_number, number_shaped}
+use Rattle.storage.specs.Stored.{number}
+use Rattle.storage.specs.Reading.{Read, got, byte_at, number_at, field_at}
+use Rattle.storage.specs.Laws.{Bytes, Cut, Formless, Says, NumbersAreRead}
+use Rattle.storage.proofs.Forms.{Shaped, one, two, three, shaped_number, number_shaped, field_bounded}
 use Rattle.storage.proofs.Steps.{number_cut, number_one, number_cut_two, number_two, number_cut_three, number_three, number_long}
 
 -- the reading, where it is known
@@ -97,3 +99,17 @@ numbers_are_read at (a ∷ b ∷ c ∷ bytes) small =
     ⊎_elim (says_one at a (b ∷ c ∷ bytes))
     (λ h. ⊎_elim (says_two at a b (c ∷ bytes) small.0 h) (λ k. says_three at a b c bytes small.0 h small.1.0 k) (cases_lt b 128))
     (cases_lt a 128)
+
+-- what is read was written
+pub number_written : (at : ℕ) (bytes : List ℕ) (n at' : ℕ) (rest : List ℕ) → Bytes bytes → number_at at bytes ≡ got n at' rest → bytes ≡ number n ++ rest
+number_written at bytes n at' rest small e = (subst (Says at bytes) e (numbers_are_read at bytes small)).1
+
+pub record FieldWritten (low high n : ℕ) (bytes rest : List ℕ) : Type 0 where
+  pub whole : bytes ≡ number n ++ rest
+  pub least : low ≤ n
+  pub most : n ≤ high
+
+pub field_written : (low high at : ℕ) (bytes : List ℕ) (n at' : ℕ) (rest : List ℕ) → Bytes bytes → field_at low high at bytes ≡ got n at' rest → FieldWritten low high n bytes rest
+field_written low high at bytes n at' rest small e =
+    let f = field_bounded low high at bytes n at' rest e in
+    record { whole = number_written at bytes n at' rest small f.is; least = f.least; most = f.most }

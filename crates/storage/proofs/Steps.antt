@@ -180,9 +180,11 @@ pub marks_first : (n at : ℕ) (bytes : List ℕ) {run at' : ℕ} {bytes' : List
 unfolding marks_at
 marks_first n at bytes e = then_got _ e
 
--- the same where the first run stands in front of m marks
-pub marks_follow : (n m at : ℕ) (bytes : List ℕ) (xs : List Bool) {run at' : ℕ} {bytes' : List ℕ} → field_at 0 (n - 1) at bytes ≡ got run at' bytes' → xs ≡ replicate run false → m ≡ n → mapped (λ ms. xs ++ ms) (later_runs_at (m - run) true (m - run) at' bytes') ≡ marks_at n at bytes
-marks_follow n m at bytes xs {run} {at'} {bytes'} e x l = (λ i. mapped (λ ms. x i ++ ms) (later_runs_at (l i - run) true (l i - run) at' bytes')) ∙ sym (marks_first n at bytes e)
+-- the same where `left` marks stand behind the first run
+pub marks_follow : (n left at : ℕ) (bytes : List ℕ) (xs : List Bool) {run at' : ℕ} {bytes' : List ℕ} → field_at 0 (n - 1) at bytes ≡ got run at' bytes' → xs ≡ replicate run false → left ≡ n - run → mapped (λ ms. xs ++ ms) (later_runs_at left true left at' bytes') ≡ marks_at n at bytes
+marks_follow n left at bytes xs {run} {at'} {bytes'} e x l = (λ i. mapped (λ ms. x i ++ ms) (later_runs_at (l i) true (l i) at' bytes')) ∙ sym (marks_first n at bytes e)
 
-pub fills_same : {A : Type 0} (items : A) {read read' : Read A} (r : Result (Unit {0}) Refusal) (d : Cursor) → read ≡ read' → Fills read r items d → Fills read' r items d
-fills_same items r d e = subst (λ read. Fills read r items d) e
+-- code that fills a row fills what stands behind xs
+pub fills_behind : {A : Type 0} (xs items : List A) (read : Read (List A)) {read' : Read (List A)} (r : Result (Unit {0}) Refusal) (d : Cursor) → mapped (λ t. xs ++ t) read ≡ read' → Fills read r items d → Fills read' r (xs ++ items) d
+fills_behind xs items read (Ok x) d e f = sym e ∙ ap (mapped (λ t. xs ++ t)) f
+fills_behind xs items read (Err x) d e f = sym e ∙ ap (mapped (λ t. xs ++ t)) f

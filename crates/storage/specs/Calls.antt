@@ -1,11 +1,10 @@
 -- Loading and storing: which refusal is due, and what an accepted call leaves. Assumes nothing.
-use Rattle.std.specs.Prelude.{◌≡◌, ℕ, ◌+◌, Bool, ◌&&◌, List, ◌++◌, length, take, drop, ℤ, Some, None, Ok, Err, Option, Result, ◌==◌, nat_le, nat_lt}
+use Rattle.std.specs.Prelude.{◌≡◌, ℕ, ◌&&◌, List, ◌++◌, length, drop, Some, None, Ok, Err, Option, Result, ◌==◌, nat_le, nat_lt}
 use Rattle.polar.specs.declared.refusal.Refusal.{Refusal}
 use Rattle.polar.specs.declared.refusal.Refusal.TheVariants.{Marks, Range, Output, ItemCount}
 use Rattle.polar.specs.Refusals.{Outcome, refused_if, refused_unless, length_due}
 use Rattle.polar.specs.Words.{trues}
-use Rattle.storage.specs.declared.loading.Header.{Header}
-use Rattle.storage.specs.Contents.{Content, content_of, all_small, Sound}
+use Rattle.storage.specs.Contents.{Content, all_small, Sound}
 use Rattle.storage.specs.Stored.{stored}
 use Rattle.storage.specs.Reading.{outcome}
 
@@ -18,26 +17,14 @@ refusal_in (Err r) = Some r
 abbrev pub load_due : ℕ → List ℕ → Option Refusal
 load_due top bytes = refusal_in (outcome top bytes)
 
--- An accepted load of `bytes` into the rows ms and vs leaves ms' and vs': in front what the bytes give, and then what was there.
--- The bytes are its stored form, and it is sound.
-pub record Held (top : ℕ) (bytes : List ℕ) (ms : List Bool) (vs : List ℤ) (ms' : List Bool) (vs' : List ℤ) (header : Header) : Type 0 where
-  pub content : Content
+-- An accepted load of `bytes` answers the content that they give. They are its stored form, and it is sound.
+pub record Held (top : ℕ) (bytes : List ℕ) (content : Content) : Type 0 where
   pub given : outcome top bytes ≡ Ok content
   pub same : bytes ≡ stored top content
   pub sound : Sound top content
-  pub length_is : header.length ≡ length content.marks
-  pub exponent_is : header.exponent ≡ content.exponent
-  pub marks_are : ms' ≡ content.marks ++ drop header.length ms
-  pub counts_are : vs' ≡ content.counts ++ drop header.length vs
 
-abbrev pub Loaded : ℕ → List ℕ → List Bool → List ℤ → Result Header Refusal → List Bool → List ℤ → Type 0
-Loaded top bytes ms vs answer ms' vs' =
-    Outcome (load_due top bytes) answer (Held top bytes ms vs ms' vs') ((ms' ≡ ms) × (vs' ≡ vs))
-
--- what reading `bytes` into the fronts of two rows answers and leaves
-abbrev pub Fronts : ℕ → List ℕ → Result Header Refusal → List Bool → List ℤ → Type 0
-Fronts top bytes (Ok h) ms vs = outcome top bytes ≡ Ok (content_of (take h.length ms) (take h.length vs) h.exponent)
-Fronts top bytes (Err r) ms vs = outcome top bytes ≡ Err r
+abbrev pub Loaded : ℕ → List ℕ → Result Content Refusal → Type 0
+Loaded top bytes answer = Outcome (load_due top bytes) answer (Held top bytes) Unit
 
 -- storing in a buffer of `room` bytes: the marks come first, then the counts and the exponent, then the buffer
 abbrev pub store_due : ℕ → Content → ℕ → Option Refusal
@@ -59,7 +46,3 @@ pub record Put (top : ℕ) (c : Content) (before after : List ℕ) (n : ℕ) : T
 abbrev pub Stores : ℕ → Content → List ℕ → Result ℕ Refusal → List ℕ → Type 0
 Stores top c before answer after =
     Outcome (store_due top c (length before)) answer (Put top c before after) (after ≡ before)
-
--- `out` with `bytes` written over it from `at` on
-unfoldable pub overwritten : List ℕ → ℕ → List ℕ → List ℕ
-overwritten out at bytes = take at out ++ (bytes ++ drop (at + length bytes) out)

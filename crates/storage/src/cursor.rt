@@ -52,7 +52,7 @@ impl Cursor<'_> {
         }
         let b = self.bytes[self.at];
         self.at += 1;
-        Ok(b as u32)
+        Ok(u32::from(b))
     }
 
     // A number of at most three groups of seven bits, in its shortest form.
@@ -88,11 +88,13 @@ impl Cursor<'_> {
         Ok(value)
     }
 
-    // Fills `marks` from `from` on by the runs after the first: active and frozen in turn, active first.
-    fn later_runs(&mut self, marks: &mut [bool], mut from: usize) -> Result<(), Refusal>
-        requires { (from ≤ length marks.old) × (length marks.old ≤ 4096) }
-        ensures { Fills (mapped (λ t. take from marks.old ++ t) (read_by (later_runs_at (length marks.old - from) true (length marks.old - from)) self.old)) result marks.new self.new }
+    // Fills `marks` by the runs after the first: active and frozen in turn, active first.
+    fn later_runs(&mut self, marks: &mut [bool]) -> Result<(), Refusal>
+        requires { length marks.old ≤ 4096 }
+        ensures { Fills (read_by (later_runs_at (length marks.old) true (length marks.old)) self.old) result marks.new self.new }
     {
+        // The place is counted: where a loop moves on to the rest of a slice, the proof loses what it wrote in front.
+        let mut from = 0;
         let mut mark = true;
         while from < marks.len() {
             let run = self.field(1, (marks.len() - from) as u32)? as usize;
@@ -109,16 +111,17 @@ impl Cursor<'_> {
         ensures { Fills (read_by (marks_at (length marks.old)) self.old) result marks.new self.new }
     {
         let frozen = self.field(0, marks.len() as u32 - 1)? as usize;
-        marks[0..frozen].fill(false);
-        self.later_runs(marks, frozen)
+        let (front, rest) = marks.split_at_mut(frozen);
+        front.fill(false);
+        self.later_runs(rest)
     }
 
     // Fills `counts` by their codes.
     pub(crate) fn counts(&mut self, counts: &mut [i16]) -> Result<(), Refusal>
         ensures { Fills (read_by (counts_at top_count (length counts.old)) self.old) result counts.new self.new }
     {
-        for i in 0..counts.len() {
-            counts[i] = decoded(self.field(0, 2 * TOP as u32)?);
+        for count in counts.iter_mut() {
+            *count = decoded(self.field(0, 2 * TOP as u32)?);
         }
         Ok(())
     }

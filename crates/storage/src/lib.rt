@@ -2,6 +2,7 @@
 #![tactic(auto)]
 
 mod cursor;
+mod form;
 pub mod loading;
 pub mod storing;
 

@@ -1,53 +1,84 @@
 // Loading marks, counts and exponent from bytes.
-ghost use Rattle.std.specs.Prelude.{◌≡◌, ◌≤◌, length, IfOk};
+ghost use Rattle.std.specs.Prelude.{◌≡◌};
 ghost use Rattle.storage.specs.Contents.{top_count};
+ghost use Rattle.storage.specs.Reading.{outcome};
 ghost use Rattle.storage.specs.Laws.{AcceptsOnlyWhatIsStored, NumbersAreRead, RefusalsArePlaced};
-ghost use Rattle.storage.specs.Calls.{Fronts, Loaded};
+ghost use Rattle.storage.specs.Calls.{Loaded};
 
 use crate::cursor::Cursor;
 use crate::{MAX_EXPONENT, VERSION};
 use polar::plan::MAX_LENGTH;
 use polar::refusal::Refusal;
+use std::marker::Model;
 
-// What was loaded besides the rows: their length and the exponent.
-#[derive(Clone, Copy, PartialEq, Eq, Debug)]
-pub struct Header {
-    pub length: usize,
-    pub exponent: u8,
+// What was loaded: the marks, as many counts, and the exponent.
+#[derive(Drop)]
+pub struct Block {
+    marks: [bool; MAX_LENGTH],
+    counts: [i16; MAX_LENGTH],
+    len: usize,
+    exponent: u8,
 }
 
-// Reads `bytes` into the fronts of two rows.
-fn read_rows(bytes: &[u8], marks: &mut [bool], counts: &mut [i16]) -> Result<Header, Refusal>
-    requires { (length marks.old ≡ 4096) × (length counts.old ≡ 4096) }
-    ensures fronts { Fronts top_count bytes.now result marks.new counts.new }
-    ensures sized { IfOk result (λ h. (1 ≤ h.length) × (h.length ≤ 4096)) }
+// Clauses see what is stored.
+impl Model for Block {
+    ghost use Rattle.std.specs.Prelude.{◌≤◌, take};
+    ghost use Rattle.storage.specs.Contents.{Content, content_of};
+
+    ghost Value = { Content };
+
+    ghost view = { λ b. content_of (take b.len b.marks) (take b.len b.counts) b.exponent };
+
+    ghost invariant = { λ b. b.len ≤ 4096 };
+}
+
+impl Block {
+    pub fn marks(&self) -> &[bool]
+        ensures { result.now ≡ self.now.marks }
+    {
+        &self.marks[..self.len]
+    }
+
+    pub fn counts(&self) -> &[i16]
+        ensures { result.now ≡ self.now.counts }
+    {
+        &self.counts[..self.len]
+    }
+
+    pub fn exponent(&self) -> u8
+        ensures { result ≡ self.now.exponent }
+    {
+        self.exponent
+    }
+}
+
+// Reads the fields of `bytes`, and refuses bytes that follow them.
+fn read(bytes: &[u8]) -> Result<Block, Refusal>
+    ensures { result ≡ outcome top_count bytes.now }
 {
     let mut input = Cursor::new(bytes);
     input.field(VERSION, VERSION)?;
-    let length = input.field(1, MAX_LENGTH as u32)? as usize;
+    let len = input.field(1, MAX_LENGTH as u32)? as usize;
     let exponent = input.field(0, MAX_EXPONENT as u32)? as u8;
-    input.marks(&mut marks[0..length])?;
-    input.counts(&mut counts[0..length])?;
+    let mut marks = [false; MAX_LENGTH];
+    let mut counts = [0; MAX_LENGTH];
+    input.marks(&mut marks[..len])?;
+    input.counts(&mut counts[..len])?;
     input.end()?;
-    Ok(Header { length, exponent })
+    Ok(Block {
+        marks,
+        counts,
+        len,
+        exponent,
+    })
 }
 
-// Loads `bytes` into the fronts of two rows, whose tails stay; a refusal leaves both as they were.
-pub fn load(
-    bytes: &[u8],
-    marks: &mut [bool; MAX_LENGTH],
-    counts: &mut [i16; MAX_LENGTH],
-) -> Result<Header, Refusal>
-    ensures loaded { Loaded top_count bytes.now marks.old counts.old result marks.new counts.new }
+// What `bytes` store, or the first refusal in their order.
+pub fn load(bytes: &[u8]) -> Result<Block, Refusal>
+    ensures loaded { Loaded top_count bytes.now result }
     ensures accepts { AcceptsOnlyWhatIsStored top_count }
     ensures numbers { NumbersAreRead }
     ensures placed { RefusalsArePlaced top_count }
 {
-    let mut new_marks = [false; MAX_LENGTH];
-    let mut new_counts = [0; MAX_LENGTH];
-    let header = read_rows(bytes, &mut new_marks, &mut new_counts)?;
-    let n = header.length;
-    marks[0..n].copy_from_slice(&new_marks[0..n]);
-    counts[0..n].copy_from_slice(&new_counts[0..n]);
-    Ok(header)
+    read(bytes)
 }

@@ -18,7 +18,7 @@ impl Scale {
         ensures zero { count ≡ pos 0 → result ≡ fin false 0 (pos 0) }
         ensures returns { unsigned_abs count ≤ largest_count → count_of largest_count (exponent_of self.now.step) result ≡ Some count }
     {
-        count as f32 * self.step
+        f32::from(count) * self.step
     }
 
     // The count of a level: the level is multiplied by 2^k, clipped to -127..127 and taken to the

@@ -45,10 +45,5 @@ impl Scale {
 pub fn all_numbers(levels: &[f32]) -> bool
     ensures { result ≡ all_are_numbers levels.now }
 {
-    for level in levels {
-        if level.is_nan() {
-            return false;
-        }
-    }
-    true
+    levels.iter().all(|level| !level.is_nan())
 }

@@ -1,4 +1,4 @@
-use Rattle.std.proofs.Common.{◌≡◌, ◌+◌, ◌-◌, ◌++◌, length, take, drop, replicate, sym, refl, ap, ◌∙◌, arith, length-drop}
+use Rattle.std.proofs.Common.{◌≡◌, ◌+◌, ◌-◌, ◌++◌, length, take, drop, replicate, sym, ap, ◌∙◌, arith, length-drop}
 use lib.ListN.{length-replicate}
 use Rattle.std.proofs.lemmas.List.{take_all, length-take-le}
 use Rattle.std.proofs.lemmas.Slice.{take-put_mid}
@@ -6,9 +6,6 @@ use Rattle.storage.specs.Cursors.{rest}
 use Rattle.storage.specs.Reading.{field_at}
 use Rattle.storage.proofs.Steps.{pending_more, pending_refused, pending_all, runs_next, runs_refused, runs_all, fills_exit}
 use Rattle.storage.proofs.cursor.Cursor.later_runs.Goals as goal
-
-pub loop-from-init : goal.loop-from-init
-loop-from-init c = (c.requires.0, (length c.args.marks.now - c.args.from, omega arith, refl))
 
 pub returns-in_err-run : goal.returns-in_err-run
 returns-in_err-run c =

@@ -1,8 +1,5 @@
-use Rattle.std.proofs.Common.{◌≡◌, ◌-◌, false, length, drop, replicate, ap, ◌∙◌, arith, length-append, length-drop}
-use lib.ListN.{length-replicate}
-use Rattle.std.proofs.lemmas.List.{take_at}
-use Rattle.storage.proofs.Rows.{front_length}
-use Rattle.storage.proofs.Steps.{marks_refused, marks_follow, fills_exit, fills_same}
+use Rattle.std.proofs.Common.{◌≡◌, false, replicate, ap, ◌∙◌, arith}
+use Rattle.storage.proofs.Steps.{marks_refused, marks_follow, fills_exit, fills_behind}
 use Rattle.storage.proofs.cursor.Cursor.marks.Goals as goal
 
 pub returns-in_err-frozen : goal.returns-in_err-frozen
@@ -12,13 +9,8 @@ returns-in_err-frozen c =
 
 pub returns : goal.returns
 returns c =
-    let ms = c.args.marks.now in
-    let frozen = c.in_ok-frozen.field-0 in
-    let within = c.in_ok-frozen.ensures.within.1 in
-    let front = c.fill.new.self in
-    let filled : front ≡ replicate frozen false = c.fill.ensures.after (λ y e. e) ∙ ap (λ n. replicate n false) (front_length frozen ms (omega arith)) in
-    let long : length front ≡ frozen = ap length filled ∙ length-replicate frozen false in
-    fills_same _ c.later_runs.result c.later_runs.new.self
-    (marks_follow _ _ _ _ _ c.in_ok-frozen.ensures.reads (take_at front (drop (frozen - 0) ms) frozen long ∙ filled)
-    (length-append front (drop (frozen - 0) ms) ∙ simp length-drop (omega arith)))
+    let parts = c.split_at_mut-front.ensures in
+    let filled : c.fill.new.self ≡ replicate c.in_ok-frozen.field-0 false = c.fill.ensures.after (λ y e. e) ∙ ap (λ n. replicate n false) parts.front_len in
+    fills_behind c.fill.new.self c.later_runs.new.marks _ c.later_runs.result c.later_runs.new.self
+    (marks_follow _ _ _ _ _ c.in_ok-frozen.ensures.reads filled (omega (arith, parts.back_len)))
     c.later_runs.ensures
