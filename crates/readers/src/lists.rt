@@ -6,6 +6,7 @@ ghost use Rattle.polar.specs.Bytes.{bits};
 ghost use Rattle.readers.specs.Readings.{AllFit, total};
 ghost use Rattle.readers.specs.Blocks.{first_unfit, pile_due, rows, ListRead, WorkingRowsFree, NearReadsTrue, ShortfallTold};
 
+use crate::question::Question;
 use crate::reader::Reader;
 use polar::bits::are_bits;
 use polar::code::take_out;
@@ -95,7 +96,12 @@ pub fn read_list<K: Listed, R: Reader<K>>(
         return Err(Refusal::Output);
     }
     let (word, work) = bits.split_at_mut(marks.len());
-    reader.read(marks, 0, values, soft, work, word);
+    let question = Question {
+        marks,
+        turns: 0,
+        values,
+    };
+    reader.read(&question, soft, work, word);
     take_out(plan, word, out)
 }
 
