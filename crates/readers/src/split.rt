@@ -33,11 +33,11 @@ impl<K: Soft, R: Reader<K>> Reader<K> for Split<R> {
     }
 
     fn soft_places(&self, len: usize) -> usize {
-        add_places(self.below.soft_places(len), len)
+        add_places(self.below.soft_places(len), split_places(len))
     }
 
     fn bit_places(&self, len: usize) -> usize {
-        add_places(self.below.bit_places(len), len)
+        add_places(self.below.bit_places(len), split_places(len))
     }
 
     fn read(
@@ -51,12 +51,19 @@ impl<K: Soft, R: Reader<K>> Reader<K> for Split<R> {
     }
 }
 
-// The places of a split over a reader that works in `below` places.
-fn add_places(below: usize, len: usize) -> usize
-    requires { len ≤ 4096 }
-    ensures { result ≡ capped (below + split_places len) }
+// The places that a layer tells over a reader that tells `below`: the sum, which stops.
+pub fn add_places(below: usize, more: usize) -> usize
+    ensures { result ≡ capped (below + more) }
 {
-    below.saturating_add(4 * len + 64).min(PLACES_STOP)
+    below.saturating_add(more).min(PLACES_STOP)
+}
+
+// The places of each sort that a split tells on top of the reader below.
+fn split_places(len: usize) -> usize
+    requires { len ≤ 4096 }
+    ensures { result ≡ split_places len }
+{
+    4 * len + 64
 }
 
 // The split's answer. The values of one child at a time stand in the front of `soft`.

@@ -10,7 +10,7 @@ use polar::bits::count_ones;
 use polar::labels::transform;
 use readers::question::Question;
 use readers::reader::Reader;
-use readers::split::PLACES_STOP;
+use readers::split::add_places;
 use soft::kind::{Scored, Soft};
 
 // Reads nodes with no active leaf, with all, with all but the first and with just one; other nodes go below.
@@ -37,10 +37,7 @@ impl<K: Scored, R: Reader<K>> Reader<K> for Shortcut<R> {
     }
 
     fn bit_places(&self, len: usize) -> usize {
-        self.below
-            .bit_places(len)
-            .saturating_add(len)
-            .min(PLACES_STOP)
+        add_places(self.below.bit_places(len), len)
     }
 
     fn read(

@@ -12,7 +12,7 @@ pub read-requires : goal.read-requires
 read-requires g c =
     let ms = marks_of c.args.plan.now in
     let same = c.marks-marks.ensures in
-    let facts = pile_facts g.K.Soft.kind (g.R.Reader.reading c.args.reader.now) ms (length c.args.soft.now) (length c.args.bits.now) c.in_default-check_pile.ensures.0 in
+    let facts = pile_facts g.K.Soft.kind (g.R.Reader.reading c.args.reader.now) ms (length c.args.soft.now) (length c.args.bits.now) c.in_ok-check_pile.ensures.0 in
     let cut = c.split_at_mut-word.ensures in
     let long = ap length same in
     rw same record {
@@ -30,7 +30,7 @@ returns g c =
     let reading = g.R.Reader.reading c.args.reader.now in
     let ms = marks_of c.args.plan.now in
     let same = c.marks-marks.ensures in
-    let facts = pile_facts kind reading ms (length c.args.soft.now) (length c.args.bits.now) c.in_default-check_pile.ensures.0 in
+    let facts = pile_facts kind reading ms (length c.args.soft.now) (length c.args.bits.now) c.in_ok-check_pile.ensures.0 in
     let posed = posed_list kind c.args.plan.now c.args.values.now _ same c.if-values-marks.false (sym c.in_default.ensures) in
     record {
       value = search rules;
