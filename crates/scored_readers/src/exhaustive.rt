@@ -27,7 +27,7 @@ impl Exhaustive {
     pub fn new(threshold: usize) -> Result<Exhaustive, Refusal>
         ensures { Outcome (threshold_due threshold) result (λ e. e.threshold ≡ threshold) (Unit {0}) }
     {
-        if 1 <= threshold && threshold <= 8 {
+        if (1..=8).contains(&threshold) {
             Ok(Exhaustive { threshold })
         } else {
             Err(Refusal::Range)

@@ -96,7 +96,7 @@ fn decide_even<K: Scored>(question: &Question<'_, K>, out: &mut [bool])
     }
 }
 
-// The first place whose two scores lie closest.
+// The first place whose two scores lie closest. (Of `min_by_key` no clause says that it gives the first of several.)
 fn find_weakest<K: Scored>(question: &Question<'_, K>) -> usize
     ensures value { result ≡ weakest K.Scored.scoring question.now.turns question.now.values.now }
     ensures within { result < length question.now.values.now }
@@ -105,10 +105,10 @@ fn find_weakest<K: Scored>(question: &Question<'_, K>) -> usize
     let values = question.values;
     let mut place = 0;
     let mut narrow = width(values[0], turns);
-    for i in 0..values.len() - 1 {
-        let next = width(values[i + 1], turns);
+    for i in 1..values.len() {
+        let next = width(values[i], turns);
         if next < narrow {
-            place = i + 1;
+            place = i;
             narrow = next;
         }
     }
