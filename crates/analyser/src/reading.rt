@@ -11,6 +11,7 @@ use captures::capture::Capture;
 use polar::code::take_out;
 use polar::refusal::Refusal;
 use readers::lists::check_pile;
+use readers::question::Question;
 use readers::reader::Reader;
 use soft::count::Count;
 
@@ -38,7 +39,12 @@ pub fn read_capture<K: Spoken, R: Reader<K>>(
     let (values, places) = soft.split_at_mut(marks.len());
     put_values(capture.counts(), values);
     let (word, work) = bits.split_at_mut(marks.len());
-    reader.read(marks, 0, values, places, work, word);
+    let question = Question {
+        marks,
+        turns: 0,
+        values,
+    };
+    reader.read(&question, places, work, word);
     take_out(plan, word, out)
 }
 

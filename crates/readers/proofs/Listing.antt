@@ -1,9 +1,11 @@
 -- The loops over a list, and what reading one promises. Assumes nothing.
-use Rattle.std.proofs.Common.{◌≡◌, ℕ, suc, ◌+◌, ◌*◌, ◌<◌, ◌≤◌, Bool, true, false, cond, not, ◌&&◌, T, leb, List, [], ◌∷◌, ◌++◌, length, get_or, take, drop, is_some, IfOk, Some, None, Ok, Err, Option, Result, sym, refl, ap, ◌∙◌, subst, mul-one, arith}
-use mathlib.Core.Bool.{and_assoc}
+use Rattle.std.proofs.Common.{◌≡◌, ℕ, suc, fold, nat_lt, ◌+◌, ◌*◌, ◌<◌, ◌≤◌, Bool, true, false, cond, not, ◌&&◌, T, leb, List, [], ◌∷◌, ◌++◌, length, get_or, take, drop, is_some, IfOk, Some, None, Ok, Err, Option, Result, sym, refl, ap, ◌∙◌, subst, mul-one, arith}
 use Rattle.std.specs.Option.{option_map}
-use Rattle.std.proofs.lemmas.List.{drop_more, drop_all}
-use Rattle.std.proofs.lemmas.Bool.{and_parts, leb-true}
+use Rattle.std.proofs.lemmas.List.{drop_more}
+use Rattle.std.proofs.lemmas.Bool.{and_parts, leb-true, cond-true, false≢true}
+use Rattle.std.proofs.lemmas.Bool.Decides.{nat_tests}
+use Rattle.std.specs.List.{position, prefix_len, sum_by, zip}
+use Rattle.std.proofs.lemmas.List.Sums.{sum_by-cons}
 use Rattle.polar.specs.declared.refusal.Refusal.TheVariants.{WorkingRoom, NotTaken}
 use Rattle.soft.specs.Kind.{Kind, limit}
 use Rattle.polar.specs.Words.{trues}
@@ -17,7 +19,6 @@ use Rattle.polar.specs.declared.refusal.Refusal.{Refusal}
 use Rattle.polar.specs.Plans.{marks_of, TakenOut}
 use Rattle.polar.proofs.PlanFacts.{sized}
 use Rattle.polar.proofs.Dues.{unless_none}
-use Rattle.polar.proofs.FirstPlaces.{one_further}
 use Rattle.polar.proofs.Parts.{label_codeword}
 use Rattle.polar.proofs.Codes.{taken_out}
 use Rattle.readers.specs.Readings.{Reading, ReaderRules, Posed, AllFit, most_places, total}
@@ -36,10 +37,9 @@ later_none : (o : Option ℕ) → option_map suc o ≡ None → o ≡ None
 later_none None h = refl
 later_none (Some k) h = let z : ◌≡◌ {A = ℕ} 0 1 = cc in absurd (omega arith)
 
-passes : (b : Bool) (o : Option ℕ) → not (is_some (cond b (option_map suc o) (Some 0))) ≡ (b && not (is_some o))
-passes true None = refl
-passes true (Some k) = refl
-passes false o = refl
+-- one place further, where the first of a list is looked for behind its head
+position_further : (n m : ℕ) → option_map suc (cond (nat_lt n m) (Some n) None) ≡ cond (nat_lt (1 + n) (suc m)) (Some (1 + n)) None
+position_further n m = grind (arith, nat_tests)
 
 module _ {K : Type 0} (kind : Kind K) where
   -- one value more at the front of what is left of a row
@@ -56,37 +56,36 @@ module _ {K : Type 0} (kind : Kind K) where
       by true is h others = (subst T (sym is) tt, others (later_none (first_unfit kind values) h))
       by false is h others = let z : ◌≡◌ {A = ℕ} 0 1 = cc in absurd (omega arith)
 
-  -- one value more of a list that fits so far
-  pub fits_more : (values : List K) (i : ℕ) (v : K) (all whole : Bool) → i < length values → v ≡ get_or values i v
-      → (all && not (is_some (first_unfit kind (drop i values)))) ≡ whole
-      → (all && kind.fitting v 0 && not (is_some (first_unfit kind (drop (i + 1) values)))) ≡ whole
-  fits_more values i v all whole within read inv =
-      let o = first_unfit kind (drop (i + 1) values) in
-      let step : not (is_some (first_unfit kind (drop i values))) ≡ (kind.fitting v 0 && not (is_some o)) = ap (λ r. not (is_some (first_unfit kind r))) (rest values i v within read) ∙ passes (kind.fitting v 0) o in
-      and_assoc all (kind.fitting v 0) (not (is_some o)) ∙ ap (λ b. all && b) (sym step) ∙ inv
+  -- the first value that does not fit, in the words of the library
+  pub first_unfit_is : (values : List K) → first_unfit kind values ≡ position (λ v. not (kind.fitting v 0)) values
+  first_unfit_is [] = refl
+  first_unfit_is (v ∷ values) = by (kind.fitting v 0) (first_unfit_is values)
+    where
+      by : (b : Bool) → first_unfit kind values ≡ position (λ v. not (kind.fitting v 0)) values
+          → cond b (option_map suc (first_unfit kind values)) (Some 0) ≡ (let n = cond (not (not b)) (1 + prefix_len (λ v. not (not (kind.fitting v 0))) values) 0 in cond (nat_lt n (length (v ∷ values))) (Some n) None)
+      by true same = ap (option_map suc) same ∙ position_further _ _
+      by false same = sym (cond-true (nat_lt 0 (length (v ∷ values))) _ _ (grind (arith, nat_tests)))
 
-  -- the first value that does not fit, and one that does
-  pub misfit_here : (values : List K) (i : ℕ) (v : K) (whole : Option ℕ) → i < length values → v ≡ get_or values i v → kind.fitting v 0 ≡ false
-      → option_map (λ k. i + k) (first_unfit kind (drop i values)) ≡ whole → Some i ≡ whole
-  misfit_here values i v whole within read bad inv =
-      let is : first_unfit kind (drop i values) ≡ Some 0 = ap (first_unfit kind) (rest values i v within read) ∙ rw bad in
-      let at : i ≡ i + 0 = omega arith in
-      ap Some at ∙ ap (option_map (λ k. i + k)) (sym is) ∙ inv
+  -- once a value does not fit, the list does not
+  unfit_stays : (values : List K) → fold (λ all v. all && kind.fitting v 0) false values ≡ false
+  unfit_stays [] = refl
+  unfit_stays (v ∷ values) = unfit_stays values
 
-  pub misfit_later : (values : List K) (i : ℕ) (v : K) (whole : Option ℕ) → i < length values → v ≡ get_or values i v → kind.fitting v 0 ≡ true
-      → option_map (λ k. i + k) (first_unfit kind (drop i values)) ≡ whole → option_map (λ k. (i + 1) + k) (first_unfit kind (drop (i + 1) values)) ≡ whole
-  misfit_later values i v whole within read good inv =
-      let o = first_unfit kind (drop (i + 1) values) in
-      let is : first_unfit kind (drop i values) ≡ option_map suc o = ap (first_unfit kind) (rest values i v within read) ∙ rw good in
-      sym (one_further i o) ∙ ap (option_map (λ k. i + k)) (sym is) ∙ inv
+  -- a list that fits has no first value that does not
+  pub none_unfit : (values : List K) → fold (λ all v. all && kind.fitting v 0) true values ≡ true → first_unfit kind values ≡ None
+  none_unfit [] all = refl
+  none_unfit (v ∷ values) all = by (kind.fitting v 0) all (none_unfit values)
+    where
+      by : (b : Bool) → fold (λ all v. all && kind.fitting v 0) b values ≡ true → (fold (λ all v. all && kind.fitting v 0) true values ≡ true → first_unfit kind values ≡ None)
+          → cond b (option_map suc (first_unfit kind values)) (Some 0) ≡ None
+      by true all others = ap (option_map suc) (others all)
+      by false all others = absurd (false≢true (sym (unfit_stays values) ∙ all))
 
-  -- one symbol more of a shortfall
-  pub total_more : (values : List K) (word : List ℕ) (i : ℕ) (v : K) → i < length values → i < length word → v ≡ get_or values i v
-      → total kind 0 (drop i values) (bits (drop i word)) ≡ kind.shortfall v (bit (get_or word i 0)) 0 + total kind 0 (drop (i + 1) values) (bits (drop (i + 1) word))
-  total_more values word i v p q read = rw (rest values i v p read, drop_more word i 0 q)
-
-  pub total_none : (values : List K) (word : List ℕ) (i : ℕ) → length values ≤ i → total kind 0 (drop i values) (bits (drop i word)) ≡ 0
-  total_none values word i past = ap (λ vs. total kind 0 vs (bits (drop i word))) (drop_all i values past)
+  -- the shortfall of all values from a word's bits, in the words of the library
+  pub total_is : (values : List K) (word : List ℕ) → total kind 0 values (bits word) ≡ sum_by (λ p. kind.shortfall p.0 (bit p.1) 0) (zip values word)
+  total_is [] word = refl
+  total_is (v ∷ values) [] = refl
+  total_is (v ∷ values) (b ∷ word) = ap (λ n. kind.shortfall v (bit b) 0 + n) (total_is values word) ∙ sym (sum_by-cons _ (v, b) (zip values word))
 
   -- what an accepted pile has: it takes the marks, and its places are there
   pub pile_facts : (reading : Reading K) (ms : List Bool) (soft_places bit_places : ℕ) → pile_due reading ms soft_places bit_places None ≡ None

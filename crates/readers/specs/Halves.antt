@@ -1,13 +1,11 @@
 -- What one level of reading by halves needs. Assumes nothing.
 use Rattle.std.specs.Prelude.{◌≡◌, ℕ, ◌+◌, ◌≤◌, Bool, List, length}
-use Rattle.soft.specs.Kind.{Kind}
 use Rattle.polar.specs.Codewords.{tree_of}
-use Rattle.readers.specs.Readings.{Reading, Posed, most_places}
+use Rattle.readers.specs.Readings.{Reading, most_places}
 use Rattle.readers.specs.SplitReading.{own_places}
 
--- a node, and the places of the reader below with those of the split itself
-pub record Halving {K : Type 0} (kind : Kind K) (below : Reading K) (marks : List Bool) (turns : ℕ) (values : List K) (soft_places bit_places out_places : ℕ) : Type 0 where
-  pub posed : Posed kind marks turns values
+-- beside the node, the places of the reader below with those of the split itself
+pub record Halving {K : Type 0} (below : Reading K) (marks : List Bool) (soft_places bit_places out_places : ℕ) : Type 0 where
   pub out_room : out_places ≡ length marks
   pub soft_room : below.soft_need (length marks) + own_places (tree_of marks) ≤ soft_places
   pub bit_room : below.bit_need (length marks) ≤ bit_places

@@ -34,7 +34,7 @@ module _ {K : Type 0} (kind : Kind K) (rules : Rules kind) where
   near [] turns values word one posed code close = absurd (omega (arith, eqb-true 0 1 one))
   near (m ∷ []) turns [] word one posed code close = absurd (omega (arith, posed.same))
   near (m ∷ []) turns (v ∷ []) word one posed code close =
-      let few = turns_most 1 turns posed.some posed.short in
+      let few = turns_most posed in
       let code' : Codeword leaf (m ∷ []) word = subst (λ s. Codeword s (m ∷ []) word) balanced_one code in
       let within : total kind turns (v ∷ []) word < limit kind turns * weight leaf (m ∷ []) = subst (λ s. total kind turns (v ∷ []) word < limit kind turns * weight s (m ∷ [])) balanced_one close in
       decided m turns v word few posed.fits.0 code' within

@@ -33,10 +33,9 @@ pub record Posed {K : Type 0} (kind : Kind K) (marks : List Bool) (turns : ℕ) 
   pub same : length values ≡ length marks
   pub fits : AllFit kind turns values
 
--- what a reading needs: a node that the reader takes, a word as long as the node, and the places that it works in
-pub record Ready {K : Type 0} (kind : Kind K) (reading : Reading K) (marks : List Bool) (turns : ℕ) (values : List K) (soft_places bit_places out_places : ℕ) : Type 0 where
+-- what a reading needs beside the node: that the reader takes it, a word as long as the node, and the places that it works in
+pub record Ready {K : Type 0} (reading : Reading K) (marks : List Bool) (soft_places bit_places out_places : ℕ) : Type 0 where
   pub taken : reading.taking marks ≡ true
-  pub posed : Posed kind marks turns values
   pub out_room : out_places ≡ length marks
   pub soft_room : reading.soft_need (length marks) ≤ soft_places
   pub bit_room : reading.bit_need (length marks) ≤ bit_places

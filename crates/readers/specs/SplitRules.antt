@@ -122,7 +122,7 @@ module _ {K : Type 0} (kind : Kind K) (rules : Rules kind) (below : Reading K) (
       parts = ap (total kind turns values) (parts_join l r marks long word) ∙ total_join kind h turns values x y is_x.0 (omega (arith, posed.same, long))
 
       few : turns ≤ 11
-      few = few_turns (length marks) turns two_marks posed.short
+      few = few_turns posed two_marks
 
       compared : total kind turns lefts x ≤ total kind turns values word
       compared = rw parts (total_compared kind rules turns (omega (arith, few)) (take h values) (drop h values) x y (All-take _ h values posed.fits) (All-drop _ h values posed.fits) front back)

@@ -22,7 +22,7 @@ module _ {K : Type 0} (kind : Kind K) (rules : Rules kind) (marks : List Bool) (
   pub posed_left : Posed kind (take half marks) turns (left_values kind half values)
   posed_left =
       let long : length (take half marks) ≡ half = length-take-le half marks (omega arith) in
-      let few : turns ≤ 12 = turns_most (length marks) turns posed.some posed.short in
+      let few : turns ≤ 12 = turns_most posed in
       record {
         some = omega arith;
         short = omega (arith, posed.short, mul-le-mul_right {m = length (take half marks)} {n = length marks} (2 ^ turns) (omega arith));
@@ -35,7 +35,7 @@ module _ {K : Type 0} (kind : Kind K) (rules : Rules kind) (marks : List Bool) (
       let long : length (drop half marks) ≡ length marks / 2 = simp length-drop (omega arith) in
       let front : length (take half values) ≡ half = length-take-le half values (omega (arith, posed.same)) in
       let back : length (drop half values) ≡ length marks / 2 = simp length-drop (omega (arith, posed.same)) in
-      let few : turns ≤ 11 = few_turns (length marks) turns two posed.short in
+      let few : turns ≤ 11 = few_turns posed two in
       record {
         some = omega arith;
         short = rw long (right_short (length marks) turns posed.short);
@@ -87,11 +87,10 @@ own_most =
 
 module _ {K : Type 0} (kind : Kind K) (rules : Rules kind) (below : Reading K) (belows : ReaderRules kind below) where
   -- what a split is given suffices for reading by halves
-  pub split_ready : (marks : List Bool) (turns : ℕ) (values : List K) (soft bits out : ℕ) → Ready kind (split_reading kind below) marks turns values soft bits out → Halving kind below marks turns values soft bits out
-  split_ready marks turns values soft bits out ready =
-      let own = own_most (length marks) ready.posed.some in
+  pub split_ready : (marks : List Bool) (soft bits out : ℕ) → 1 ≤ length marks → Ready (split_reading kind below) marks soft bits out → Halving below marks soft bits out
+  split_ready marks soft bits out some ready =
+      let own = own_most (length marks) some in
       record {
-        posed = ready.posed;
         out_room = ready.out_room;
         soft_room = omega (arith, ready.soft_room, ready.soft_told);
         bit_room = omega (arith, ready.bit_room, ready.bits_told);
@@ -104,18 +103,16 @@ module _ {K : Type 0} (kind : Kind K) (rules : Rules kind) (below : Reading K) (
   two_leaves (m ∷ []) some untaken = absurd (both_ways _ untaken (belows.leaf_taken m))
   two_leaves (m ∷ n ∷ marks) some untaken = omega arith
 
-  module _ (marks : List Bool) (turns : ℕ) (values : List K) (soft bits out : ℕ) (ready : Halving kind below marks turns values soft bits out) (two : 2 ≤ length marks) (half : ℕ) (halved : half ≡ length marks - length marks / 2) (rest : ℕ) (cut : rest + half ≡ soft) where
-    pub left_ready : (ms : List Bool) (vs : List K) (room : ℕ) → ms ≡ take half marks → vs ≡ left_values kind half values → room ≡ half → Halving kind below ms turns vs rest bits room
-    left_ready ms vs room ism isv long =
+  module _ (marks : List Bool) (soft bits out : ℕ) (ready : Halving below marks soft bits out) (two : 2 ≤ length marks) (half : ℕ) (halved : half ≡ length marks - length marks / 2) (rest : ℕ) (cut : rest + half ≡ soft) where
+    pub left_ready : (ms : List Bool) (room : ℕ) → ms ≡ take half marks → room ≡ half → Halving below ms rest bits room
+    left_ready ms room ism long =
         let n = length marks in
-        let posed : Posed kind ms turns vs = rw (ism, isv) (posed_left kind rules marks turns values ready.posed two half halved) in
         let size : length ms ≡ half = ap length ism ∙ length-take-le half marks (omega arith) in
         let own = own_node n two in
         let mine : own_places (balanced (length ms)) ≡ own_places (balanced (n - n / 2)) = ap (λ k. own_places (balanced k)) (size ∙ halved) in
         let softer : below.soft_need (length ms) ≤ below.soft_need n = belows.soft_grows (length ms) n (omega arith) in
         let fewer : below.bit_need (length ms) ≤ below.bit_need n = belows.bits_grow (length ms) n (omega arith) in
         record {
-          posed = posed;
           out_room = long ∙ sym size;
           soft_room = omega (arith, ready.soft_room);
           bit_room = omega (arith, ready.bit_room);
@@ -123,10 +120,9 @@ module _ {K : Type 0} (kind : Kind K) (rules : Rules kind) (below : Reading K) (
           bits_told = omega (arith, ready.bits_told);
         }
 
-    pub right_ready : (ms : List Bool) (vs : List K) (left : List Bool) (bits' room : ℕ) → ms ≡ drop half marks → length left ≡ half → vs ≡ right_values kind half values left → bits' ≡ bits → room + half ≡ length marks → Halving kind below ms (turns + 1) vs rest bits' room
-    right_ready ms vs left bits' room ism wide isv kept long =
+    pub right_ready : (ms : List Bool) (bits' room : ℕ) → ms ≡ drop half marks → bits' ≡ bits → room + half ≡ length marks → Halving below ms rest bits' room
+    right_ready ms bits' room ism kept long =
         let n = length marks in
-        let posed : Posed kind ms (turns + 1) vs = rw (ism, isv) (posed_right kind rules marks turns values ready.posed two half halved left wide) in
         let size : length ms ≡ n - half = ap length ism ∙ length-drop half marks in
         let own = own_node n two in
         let rest_is : n - half ≡ n / 2 = omega arith in
@@ -134,7 +130,6 @@ module _ {K : Type 0} (kind : Kind K) (rules : Rules kind) (below : Reading K) (
         let softer : below.soft_need (length ms) ≤ below.soft_need n = belows.soft_grows (length ms) n (omega arith) in
         let fewer : below.bit_need (length ms) ≤ below.bit_need n = belows.bits_grow (length ms) n (omega arith) in
         record {
-          posed = posed;
           out_room = omega arith;
           soft_room = omega (arith, ready.soft_room);
           bit_room = omega (arith, ready.bit_room);

@@ -2,6 +2,7 @@
 ghost use Rattle.readers.specs.LeafReading.{leaf_reading};
 ghost use Rattle.readers.specs.LeafRules.{leaf_rules};
 
+use crate::question::Question;
 use crate::reader::Reader;
 use soft::kind::Soft;
 
@@ -29,13 +30,11 @@ impl<K: Soft> Reader<K> for Leaf {
 
     fn read(
         &self,
-        marks: &[bool],
-        _turns: u32,
-        values: &[K],
+        question: &Question<'_, K>,
         _soft: &mut [K],
         _bits: &mut [bool],
         out: &mut [bool],
     ) {
-        out[0] = marks[0] && values[0].decide();
+        out[0] = question.marks[0] && question.values[0].decide();
     }
 }

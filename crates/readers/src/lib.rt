@@ -3,5 +3,6 @@
 
 pub mod leaf;
 pub mod lists;
+pub mod question;
 pub mod reader;
 pub mod split;

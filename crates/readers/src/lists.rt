@@ -1,11 +1,13 @@
 // Reading a list of soft values of any kind through any pile of readers.
-ghost use Rattle.std.specs.Prelude.{◌≡◌, ◌+◌, ◌*◌, ◌≤◌, not, length, take, is_some, IfOk, None};
+ghost use Rattle.std.specs.Prelude.{◌≡◌, ◌+◌, ◌*◌, ◌≤◌, true, not, ◌&&◌, T, fold, position, sum_by, zip, length, take, IfOk, None};
+ghost use Rattle.std.specs.List.{All};
 ghost use Rattle.polar.specs.Plans.{marks_of};
 ghost use Rattle.polar.specs.Refusals.{Outcome};
-ghost use Rattle.polar.specs.Bytes.{bits};
+ghost use Rattle.polar.specs.Bytes.{bit};
 ghost use Rattle.readers.specs.Readings.{AllFit, total};
 ghost use Rattle.readers.specs.Blocks.{first_unfit, pile_due, rows, ListRead, WorkingRowsFree, NearReadsTrue, ShortfallTold};
 
+use crate::question::Question;
 use crate::reader::Reader;
 use polar::bits::are_bits;
 use polar::code::take_out;
@@ -21,14 +23,23 @@ pub fn first_misfit<K: Listed>(values: &[K]) -> Option<usize>
     ensures { result ≡ first_unfit K.Soft.kind values.now }
 {
     if all_fit(values) {
-        return None;
+        None
+    } else {
+        find_misfit(values)
     }
-    for (i, v) in values.iter().enumerate() {
-        if !v.fits() {
-            return Some(i);
-        }
-    }
-    None
+}
+
+// Whether every value fits. All are tested, so that many are tested at a time.
+fn all_fit<K: Listed>(values: &[K]) -> bool
+    ensures { result ≡ fold (λ all v. all && K.Soft.kind.fitting v 0) true values.now }
+{
+    values.iter().fold(true, |all, v| all & v.fits())
+}
+
+fn find_misfit<K: Listed>(values: &[K]) -> Option<usize>
+    ensures { result ≡ position (λ v. not (K.Soft.kind.fitting v 0)) values.now }
+{
+    values.iter().position(|v| !v.fits())
 }
 
 // Whether a pile takes the plan, and finds its working places in buffers of these lengths, with one of each sort
@@ -56,17 +67,6 @@ pub fn check_pile<K: Soft, R: Reader<K>>(
     Ok(())
 }
 
-// Whether every value fits. All are tested, so that many are tested at a time.
-fn all_fit<K: Listed>(values: &[K]) -> bool
-    ensures { result ≡ not (is_some (first_unfit K.Soft.kind values.now)) }
-{
-    let mut all = true;
-    for v in values {
-        all &= v.fits();
-    }
-    all
-}
-
 // Reads a list of values through a pile: writes the data, a byte for each, into the front of `out` and answers how many they are.
 // `soft` and `bits` are lent to work in.
 pub fn read_list<K: Listed, R: Reader<K>>(
@@ -88,14 +88,17 @@ pub fn read_list<K: Listed, R: Reader<K>>(
     if let Some(place) = first_misfit(values) {
         return Err(K::unfit(place));
     }
-    if let Err(refusal) = check_pile(reader, plan, soft.len(), bits.len()) {
-        return Err(refusal);
-    }
+    check_pile(reader, plan, soft.len(), bits.len())?;
     if out.len() < plan.active() {
         return Err(Refusal::Output);
     }
     let (word, work) = bits.split_at_mut(marks.len());
-    reader.read(marks, 0, values, soft, work, word);
+    let question = Question {
+        marks,
+        turns: 0,
+        values,
+    };
+    reader.read(&question, soft, work, word);
     take_out(plan, word, out)
 }
 
@@ -122,12 +125,12 @@ pub fn shortfall<K: Listed>(plan: &Plan, values: &[K], word: &[u8]) -> Result<u3
 fn sum_shortfalls<K: Listed>(values: &[K], word: &[u8]) -> u32
     requires short { length values.now ≤ 4096 }
     requires same { length word.now ≡ length values.now }
-    requires fits { AllFit K.Soft.kind 0 values.now }
-    ensures { result ≡ total K.Soft.kind 0 values.now (bits word.now) }
+    requires fits { All (λ v. T (K.Soft.kind.fitting v 0)) values.now }
+    ensures { result ≡ sum_by (λ p. K.Soft.kind.shortfall p.0 (bit p.1) 0) (zip values.now word.now) }
 {
-    let mut sum = 0;
-    for (i, v) in values.iter().enumerate() {
-        sum += v.shortfall(word[i] == 1);
-    }
-    sum
+    values
+        .iter()
+        .zip(word)
+        .map(|(v, b)| v.shortfall(*b == 1))
+        .sum()
 }

@@ -2,9 +2,10 @@
 ghost use Rattle.std.specs.Prelude.{◌≡◌, ◌≤◌, length};
 ghost use Rattle.readers.specs.Readings.{Reading, ReaderRules, Ready};
 
+use crate::question::Question;
 use soft::kind::Soft;
 
-// A reader is given a node's marks, its turns and a fitting soft value for each symbol, and answers a label of the node.
+// A reader is asked about a node, and answers a label of it.
 // Layers are readers that hold another one; a pile is a reader under any number of layers.
 pub trait Reader<K: Soft> {
     ghost reading: { Self → Reading K };
@@ -24,17 +25,9 @@ pub trait Reader<K: Soft> {
         ensures { result ≡ (reading self.now).bit_need len };
 
     // Writes the answer into `out`, working in `soft` and `bits`.
-    fn read(
-        &self,
-        marks: &[bool],
-        turns: u32,
-        values: &[K],
-        soft: &mut [K],
-        bits: &mut [bool],
-        out: &mut [bool],
-    )
-        requires { Ready K.Soft.kind (reading self.now) marks.now turns values.now (length soft.old) (length bits.old) (length out.old) }
-        ensures { out.new ≡ (reading self.now).answer marks.now turns values.now };
+    fn read(&self, question: &Question<'_, K>, soft: &mut [K], bits: &mut [bool], out: &mut [bool])
+        requires { Ready (reading self.now) question.now.marks.now (length soft.old) (length bits.old) (length out.old) }
+        ensures { out.new ≡ (reading self.now).answer question.now.marks.now question.now.turns question.now.values.now };
 
     ghost rules: { (reader : Self) → ReaderRules K.Soft.kind (reading reader) };
 }

@@ -7,6 +7,7 @@ ghost use Rattle.readers.specs.SplitReading.{split_reading, split_answer, split_
 ghost use Rattle.readers.specs.Halves.{Halving};
 ghost use Rattle.readers.specs.SplitRules.{split_rules};
 
+use crate::question::Question;
 use crate::reader::Reader;
 use polar::labels::add_right;
 use polar::tree::children;
@@ -32,89 +33,84 @@ impl<K: Soft, R: Reader<K>> Reader<K> for Split<R> {
     }
 
     fn soft_places(&self, len: usize) -> usize {
-        add_places(self.below.soft_places(len), len)
+        add_places(self.below.soft_places(len), split_places(len))
     }
 
     fn bit_places(&self, len: usize) -> usize {
-        add_places(self.below.bit_places(len), len)
+        add_places(self.below.bit_places(len), split_places(len))
     }
 
     fn read(
         &self,
-        marks: &[bool],
-        turns: u32,
-        values: &[K],
+        question: &Question<'_, K>,
         soft: &mut [K],
         bits: &mut [bool],
         out: &mut [bool],
     ) {
-        read_by_halves(&self.below, marks, turns, values, soft, bits, out);
+        read_by_halves(&self.below, question, soft, bits, out);
     }
 }
 
-// The places of a split over a reader that works in `below` places.
-fn add_places(below: usize, len: usize) -> usize
-    requires { len ≤ 4096 }
-    ensures { result ≡ capped (below + split_places len) }
+// The places that a layer tells over a reader that tells `below`: the sum, which stops.
+pub fn add_places(below: usize, more: usize) -> usize
+    ensures { result ≡ capped (below + more) }
 {
-    below.saturating_add(4 * len + 64).min(PLACES_STOP)
+    below.saturating_add(more).min(PLACES_STOP)
+}
+
+// The places of each sort that a split tells on top of the reader below.
+fn split_places(len: usize) -> usize
+    requires { len ≤ 4096 }
+    ensures { result ≡ split_places len }
+{
+    4 * len + 64
 }
 
 // The split's answer. The values of one child at a time stand in the front of `soft`.
 fn read_by_halves<K: Soft, R: Reader<K>>(
     below: &R,
-    marks: &[bool],
-    turns: u32,
-    values: &[K],
+    question: &Question<'_, K>,
     soft: &mut [K],
     bits: &mut [bool],
     out: &mut [bool],
 )
-    requires { Halving K.Soft.kind (R.Reader.reading below.now) marks.now turns values.now (length soft.old) (length bits.old) (length out.old) }
-    ensures { out.new ≡ split_answer K.Soft.kind (R.Reader.reading below.now) (tree_of marks.now) marks.now turns values.now }
+    requires { Halving (R.Reader.reading below.now) question.now.marks.now (length soft.old) (length bits.old) (length out.old) }
+    ensures { out.new ≡ split_answer K.Soft.kind (R.Reader.reading below.now) (tree_of question.now.marks.now) question.now.marks.now question.now.turns question.now.values.now }
 {
-    if below.takes(marks) {
-        below.read(marks, turns, values, soft, bits, out);
+    if below.takes(question.marks) {
+        below.read(question, soft, bits, out);
         return;
     }
-    let (half, right_len) = children(marks.len());
-    let (left_marks, right_marks) = marks.split_at(half);
+    let (half, right_len) = children(question.marks.len());
+    let (left_marks, right_marks) = question.marks.split_at(half);
     let (work, rest) = soft.split_at_mut(half);
-    compare_halves(values, half, turns, work);
-    read_by_halves(
-        below,
-        left_marks,
-        turns,
-        work,
-        rest,
-        bits,
-        &mut out[0..half],
-    );
+    compare_halves(question, half, work);
+    let left = Question {
+        marks: left_marks,
+        turns: question.turns,
+        values: work,
+    };
+    read_by_halves(below, &left, rest, bits, &mut out[0..half]);
     let right_work = &mut work[0..right_len];
-    join_halves(values, half, &out[0..half], turns, right_work);
-    read_by_halves(
-        below,
-        right_marks,
-        turns + 1,
-        right_work,
-        rest,
-        bits,
-        &mut out[half..],
-    );
+    join_halves(question, half, &out[0..half], right_work);
+    let right = Question {
+        marks: right_marks,
+        turns: question.turns + 1,
+        values: right_work,
+    };
+    read_by_halves(below, &right, rest, bits, &mut out[half..]);
     add_right(out, half);
 }
 
 // The values of the left child of a node whose left half is `half` long.
-fn compare_halves<K: Soft>(values: &[K], half: usize, turns: u32, out: &mut [K])
-    requires few { turns ≤ 12 }
-    requires halved { (half ≤ length values.now) × (length values.now ≤ half + half) }
+fn compare_halves<K: Soft>(question: &Question<'_, K>, half: usize, out: &mut [K])
+    requires halved { (half ≤ length question.now.values.now) × (length question.now.values.now ≤ half + half) }
     requires room { length out.old ≡ half }
-    requires fits { AllFit K.Soft.kind turns values.now }
-    ensures { out.new ≡ left_values K.Soft.kind half values.now }
+    ensures { out.new ≡ left_values K.Soft.kind half question.now.values.now }
 {
-    let (left, right) = values.split_at(half);
+    let (left, right) = question.values.split_at(half);
     out.copy_from_slice(left);
-    compare_onto(out, right, turns);
+    compare_onto(out, right, question.turns);
 }
 
 // Compares each of the first values with its partner.
@@ -130,16 +126,15 @@ fn compare_onto<K: Soft>(values: &mut [K], partners: &[K], turns: u32)
 }
 
 // The values of the right child, under the answer of the left one.
-fn join_halves<K: Soft>(values: &[K], half: usize, left_bits: &[bool], turns: u32, out: &mut [K])
-    requires few { turns ≤ 11 }
-    requires halved { (half ≤ length values.now) × (length values.now ≤ half + half) }
+fn join_halves<K: Soft>(question: &Question<'_, K>, half: usize, left_bits: &[bool], out: &mut [K])
+    requires two { 2 ≤ length question.now.marks.now }
+    requires halved { (half ≤ length question.now.values.now) × (length question.now.values.now ≤ half + half) }
     requires left { length left_bits.now ≡ half }
-    requires room { length out.old + half ≡ length values.now }
-    requires fits { AllFit K.Soft.kind turns values.now }
-    ensures { out.new ≡ right_values K.Soft.kind half values.now left_bits.now }
+    requires room { length out.old + half ≡ length question.now.values.now }
+    ensures { out.new ≡ right_values K.Soft.kind half question.now.values.now left_bits.now }
 {
-    let (left, right) = values.split_at(half);
-    join_into(out, left, right, left_bits, turns);
+    let (left, right) = question.values.split_at(half);
+    join_into(out, left, right, left_bits, question.turns);
 }
 
 // Joins each of the right values with its left partner, under the left bit.

@@ -53,7 +53,7 @@ module _ {K : Type 0} (kind : Kind K) (score : Score K) (fair : AllFair kind sco
       let s = tree_of ms in
       let d = trues (plus word other) in
       let size = leaves_balanced (length ms) posed.some in
-      let few = turns_most (length ms) turns posed.some posed.short in
+      let few = turns_most posed in
       let long : length word ≡ length values = code.0 ∙ size ∙ sym posed.same in
       let long' : length other ≡ length values = code'.0 ∙ size ∙ sym posed.same in
       ⊎_elim

@@ -72,7 +72,7 @@ module _ {K : Type 0} (kind : Kind K) (score : Score K) (fair : AllFair kind sco
     size = leaves_balanced (length ms) posed.some
 
     few : turns ≤ 12
-    few = turns_most (length ms) turns posed.some posed.short
+    few = turns_most posed
 
     -- what a reader answers: a label, and the near one if there is one
     abbrev Right : List Bool → Type 0

@@ -10,6 +10,7 @@ ghost use Rattle.scored_readers.specs.ExhaustiveRules.{exhaustive_rules};
 use polar::bits::count_ones;
 use polar::labels::{add_right, transform};
 use polar::refusal::Refusal;
+use readers::question::Question;
 use readers::reader::Reader;
 use soft::kind::Scored;
 
@@ -26,7 +27,7 @@ impl Exhaustive {
     pub fn new(threshold: usize) -> Result<Exhaustive, Refusal>
         ensures { Outcome (threshold_due threshold) result (λ e. e.threshold ≡ threshold) (Unit {0}) }
     {
-        if 1 <= threshold && threshold <= 8 {
+        if (1..=8).contains(&threshold) {
             Ok(Exhaustive { threshold })
         } else {
             Err(Refusal::Range)
@@ -54,39 +55,31 @@ impl<K: Scored> Reader<K> for Exhaustive {
 
     fn read(
         &self,
-        marks: &[bool],
-        turns: u32,
-        values: &[K],
+        question: &Question<'_, K>,
         _soft: &mut [K],
         bits: &mut [bool],
         out: &mut [bool],
     ) {
-        let (rows, _) = bits.split_at_mut(2 * marks.len());
-        try_words(marks, turns, values, rows, out);
+        let (rows, _) = bits.split_at_mut(2 * question.marks.len());
+        try_words(question, rows, out);
     }
 }
 
 // The label of largest score; of those, the one of the smallest data number.
-fn try_words<K: Scored>(
-    marks: &[bool],
-    turns: u32,
-    values: &[K],
-    rows: &mut [bool],
-    out: &mut [bool],
-)
-    requires posed { Posed K.Soft.kind marks.now turns values.now }
-    requires few { trues marks.now ≤ 8 }
-    requires room { (length rows.old ≡ 2 * length marks.now) × (length out.old ≡ length marks.now) }
-    ensures { out.new ≡ exhaustive_answer K.Scored.scoring marks.now turns values.now }
+fn try_words<K: Scored>(question: &Question<'_, K>, rows: &mut [bool], out: &mut [bool])
+    requires few { trues question.now.marks.now ≤ 8 }
+    requires room { (length rows.old ≡ 2 * length question.now.marks.now) × (length out.old ≡ length question.now.marks.now) }
+    ensures { out.new ≡ exhaustive_answer K.Scored.scoring question.now.marks.now question.now.turns question.now.values.now }
 {
+    let marks = question.marks;
     let last = (1u32 << count_ones(marks)) - 1;
     put_first_words(marks, rows);
     out.copy_from_slice(&rows[0..marks.len()]);
-    let mut top = score_word(values, out, turns);
+    let mut top = score_word(question, out);
     for number in 0..last {
         put_next_word(marks, number, rows);
         let word = &rows[0..marks.len()];
-        let score = score_word(values, word, turns);
+        let score = score_word(question, word);
         if top < score {
             top = score;
             out.copy_from_slice(word);
@@ -142,14 +135,14 @@ fn put_leaves(marks: &[bool], number: u32, labels: &mut [bool])
     }
 }
 
-// The score of a node's values for the bits of a word of the node's length.
-pub(crate) fn score_word<K: Scored>(values: &[K], word: &[bool], turns: u32) -> i32
-    requires { Posed K.Soft.kind word.now turns values.now }
-    ensures { result ≡ word_score K.Scored.scoring turns values.now word.now }
+// The score of the node's values for the bits of a word of its length.
+pub(crate) fn score_word<K: Scored>(question: &Question<'_, K>, word: &[bool]) -> i32
+    requires { length word.now ≡ length question.now.marks.now }
+    ensures { result ≡ word_score K.Scored.scoring question.now.turns question.now.values.now word.now }
 {
     let mut sum = 0;
-    for (i, v) in values.iter().enumerate() {
-        sum += v.score(word[i], turns);
+    for (i, v) in question.values.iter().enumerate() {
+        sum += v.score(word[i], question.turns);
     }
     sum
 }

@@ -1,5 +1,5 @@
 // Which leaves of a node are active.
-#[derive(Clone, Copy)]
+#[derive(Clone, Copy, PartialEq, Eq, Debug)]
 pub enum Pattern {
     // None.
     Frozen,

@@ -8,8 +8,9 @@ use crate::exhaustive::score_word;
 use crate::pattern::Pattern;
 use polar::bits::count_ones;
 use polar::labels::transform;
+use readers::question::Question;
 use readers::reader::Reader;
-use readers::split::PLACES_STOP;
+use readers::split::add_places;
 use soft::kind::{Scored, Soft};
 
 // Reads nodes with no active leaf, with all, with all but the first and with just one; other nodes go below.
@@ -36,27 +37,22 @@ impl<K: Scored, R: Reader<K>> Reader<K> for Shortcut<R> {
     }
 
     fn bit_places(&self, len: usize) -> usize {
-        self.below
-            .bit_places(len)
-            .saturating_add(len)
-            .min(PLACES_STOP)
+        add_places(self.below.bit_places(len), len)
     }
 
     fn read(
         &self,
-        marks: &[bool],
-        turns: u32,
-        values: &[K],
+        question: &Question<'_, K>,
         soft: &mut [K],
         bits: &mut [bool],
         out: &mut [bool],
     ) {
-        match classify(marks) {
+        match classify(question.marks) {
             Pattern::Frozen => out.fill(false),
-            Pattern::Full => decide_all(values, out),
-            Pattern::Check => decide_even(values, turns, out),
-            Pattern::Single => weigh_single(marks, turns, values, out),
-            Pattern::Other => self.below.read(marks, turns, values, soft, bits, out),
+            Pattern::Full => decide_all(question.values, out),
+            Pattern::Check => decide_even(question, out),
+            Pattern::Single => weigh_single(question, out),
+            Pattern::Other => self.below.read(question, soft, bits, out),
         }
     }
 }
@@ -89,34 +85,30 @@ fn decide_all<K: Soft>(values: &[K], out: &mut [bool])
 }
 
 // Decides each symbol, and turns the weakest one if their sum is odd.
-fn decide_even<K: Scored>(values: &[K], turns: u32, out: &mut [bool])
-    requires few { turns ≤ 12 }
-    requires some { 1 ≤ length values.now }
-    requires room { length out.old ≡ length values.now }
-    requires fits { AllFit K.Soft.kind turns values.now }
-    ensures { out.new ≡ even_answer K.Soft.kind K.Scored.scoring turns values.now }
+fn decide_even<K: Scored>(question: &Question<'_, K>, out: &mut [bool])
+    requires { length out.old ≡ length question.now.values.now }
+    ensures { out.new ≡ even_answer K.Soft.kind K.Scored.scoring question.now.turns question.now.values.now }
 {
-    decide_all(values, out);
+    decide_all(question.values, out);
     if count_ones(out) % 2 == 1 {
-        let place = find_weakest(values, turns);
+        let place = find_weakest(question);
         out[place] = !out[place];
     }
 }
 
-// The first place whose two scores lie closest.
-fn find_weakest<K: Scored>(values: &[K], turns: u32) -> usize
-    requires few { turns ≤ 12 }
-    requires some { 1 ≤ length values.now }
-    requires fits { AllFit K.Soft.kind turns values.now }
-    ensures value { result ≡ weakest K.Scored.scoring turns values.now }
-    ensures within { result < length values.now }
+// The first place whose two scores lie closest. (Of `min_by_key` no clause says that it gives the first of several.)
+fn find_weakest<K: Scored>(question: &Question<'_, K>) -> usize
+    ensures value { result ≡ weakest K.Scored.scoring question.now.turns question.now.values.now }
+    ensures within { result < length question.now.values.now }
 {
+    let turns = question.turns;
+    let values = question.values;
     let mut place = 0;
     let mut narrow = width(values[0], turns);
-    for i in 0..values.len() - 1 {
-        let next = width(values[i + 1], turns);
+    for i in 1..values.len() {
+        let next = width(values[i], turns);
         if next < narrow {
-            place = i + 1;
+            place = i;
             narrow = next;
         }
     }
@@ -132,16 +124,15 @@ fn width<K: Scored>(value: K, turns: u32) -> u32
 }
 
 // The label of the one active leaf if it scores more than the zero label, which it else is.
-fn weigh_single<K: Scored>(marks: &[bool], turns: u32, values: &[K], out: &mut [bool])
-    requires posed { Posed K.Soft.kind marks.now turns values.now }
-    requires room { length out.old ≡ length marks.now }
-    ensures { out.new ≡ single_answer K.Scored.scoring marks.now turns values.now }
+fn weigh_single<K: Scored>(question: &Question<'_, K>, out: &mut [bool])
+    requires { length out.old ≡ length question.now.marks.now }
+    ensures { out.new ≡ single_answer K.Scored.scoring question.now.marks.now question.now.turns question.now.values.now }
 {
     out.fill(false);
-    let zero_score = score_word(values, out, turns);
-    out.copy_from_slice(marks);
+    let zero_score = score_word(question, out);
+    out.copy_from_slice(question.marks);
     transform(out);
-    if score_word(values, out, turns) <= zero_score {
+    if score_word(question, out) <= zero_score {
         out.fill(false);
     }
 }

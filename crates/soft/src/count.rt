@@ -1,7 +1,7 @@
 // Counts: whole numbers, of which TOP is sure of bit 0 and -TOP of bit 1.
 ghost use Rattle.std.specs.Prelude.{◌≡◌};
 ghost use Rattle.polar.specs.declared.refusal.Refusal.TheVariants.{Range};
-ghost use Rattle.soft.specs.Counts.{count_kind, count_score, top_count};
+ghost use Rattle.soft.specs.Counts.{count_kind, count_score, counted, top_count};
 ghost use Rattle.soft.specs.CountsLemmas.{count_rules, count_fair};
 
 use super::kind::{Listed, Scored, Soft};
@@ -13,6 +13,14 @@ pub const TOP: i32 = 127;
 #[derive(Clone, Copy, PartialEq, Eq, Debug)]
 #[repr(C)]
 pub struct Count(pub i32);
+
+impl From<i16> for Count {
+    ghost from_gives = { λ n v. v ≡ counted n };
+
+    fn from(n: i16) -> Count {
+        Count(i32::from(n))
+    }
+}
 
 impl Soft for Count {
     ghost kind = { count_kind };

@@ -25,24 +25,20 @@ impl Soft for Erasure {
 
     // The sum of two known values, else unknown.
     fn compare(self, other: Erasure, _turns: u32) -> Erasure {
-        if self == Erasure::Unknown || other == Erasure::Unknown {
-            Erasure::Unknown
-        } else if self == other {
-            Erasure::Zero
-        } else {
-            Erasure::One
+        match (self, other) {
+            (Erasure::Unknown, _) | (_, Erasure::Unknown) => Erasure::Unknown,
+            (Erasure::Zero, Erasure::Zero) | (Erasure::One, Erasure::One) => Erasure::Zero,
+            _ => Erasure::One,
         }
     }
 
     // The left bit is added to the first value. An unknown value gives way, and two that differ leave the bit unknown.
     fn join(self, other: Erasure, left_bit: bool, _turns: u32) -> Erasure {
-        let v = turned(self, left_bit);
-        if v == Erasure::Unknown {
-            other
-        } else if other == Erasure::Unknown || other == v {
-            v
-        } else {
-            Erasure::Unknown
+        match (turned(self, left_bit), other) {
+            (Erasure::Unknown, w) => w,
+            (v, Erasure::Unknown) => v,
+            (v, w) if v == w => v,
+            _ => Erasure::Unknown,
         }
     }
 
@@ -56,12 +52,10 @@ impl Soft for Erasure {
 fn turned(v: Erasure, bit: bool) -> Erasure
     ensures { result ≡ moved v bit }
 {
-    if v == Erasure::Unknown {
-        v
-    } else if (v == Erasure::One) == bit {
-        Erasure::Zero
-    } else {
-        Erasure::One
+    match (v, bit) {
+        (Erasure::Unknown, _) => Erasure::Unknown,
+        (Erasure::Zero, false) | (Erasure::One, true) => Erasure::Zero,
+        _ => Erasure::One,
     }
 }
 
@@ -74,12 +68,10 @@ impl Scored for Erasure {
     // The limit for the value's own bit, its opposite for the other.
     fn score(self, bit: bool, turns: u32) -> i32 {
         let sure = power(turns);
-        if self == Erasure::Unknown {
-            0
-        } else if (self == Erasure::One) == bit {
-            sure
-        } else {
-            -sure
+        match (self, bit) {
+            (Erasure::Unknown, _) => 0,
+            (Erasure::Zero, false) | (Erasure::One, true) => sure,
+            _ => -sure,
         }
     }
 }
@@ -101,12 +93,10 @@ impl Listed for Erasure {
     }
 
     fn shortfall(self, bit: bool) -> u32 {
-        if self == Erasure::Unknown {
-            1
-        } else if (self == Erasure::One) == bit {
-            0
-        } else {
-            FAR
+        match (self, bit) {
+            (Erasure::Unknown, _) => 1,
+            (Erasure::Zero, false) | (Erasure::One, true) => 0,
+            _ => FAR,
         }
     }
 

@@ -7,6 +7,14 @@ use Rattle.analyser.specs.Reading.{values_of}
 use Rattle.analyser.proofs.CaptureReadings.{posed_capture}
 use Rattle.analyser.proofs.reading.read_capture.Goals as goal
 
+pub invariant_of-question : goal.invariant_of-question
+invariant_of-question g c =
+    let s = c.args.capture.now in
+    let spoken = g.K.Spoken.spoken in
+    let same : c.marks-marks.result.now ≡ (captured s).marks_row = c.marks-marks.ensures ∙ c.plan-plan.ensures in
+    let is : c.put_values.new.values ≡ values_of spoken (captured s) = c.put_values.ensures ∙ ap (map spoken) c.counts.ensures in
+    rw (same, is) record { posed = posed_capture g.K.Soft.kind spoken g.met.K.Spoken.fitting s }
+
 pub read-requires : goal.read-requires
 read-requires g c =
     let s = c.args.capture.now in
@@ -16,13 +24,11 @@ read-requires g c =
     let same : c.marks-marks.result.now ≡ ms = c.marks-marks.ensures ∙ c.plan-plan.ensures in
     let due : pile_due reading ms (length c.args.soft.now) (length c.args.bits.now) None ≡ None = rw (sym c.plan-plan.ensures) c.in_default.ensures.0 in
     let facts = pile_facts g.K.Soft.kind reading ms (length c.args.soft.now) (length c.args.bits.now) due in
-    let is : c.put_values.new.values ≡ values_of spoken (captured s) = c.put_values.ensures ∙ ap (map spoken) c.counts.ensures in
     let cut = c.split_at_mut-word.ensures in
     let half = c.split_at_mut-values.ensures in
     let long = ap length same in
-    rw (same, is) record {
+    rw same record {
       taken = facts.0;
-      posed = posed_capture g.K.Soft.kind spoken g.met.K.Spoken.fitting s;
       out_room = cut.front_len ∙ long;
       soft_room = omega (arith, facts.3, half.back_len, long);
       bit_room = omega (arith, facts.4, cut.back_len, long);

@@ -3,18 +3,20 @@ use Rattle.polar.specs.Plans.{marks_of}
 use Rattle.readers.proofs.Listing.{pile_facts, posed_list, near_taken_out}
 use Rattle.readers.proofs.lists.read_list.Goals as goal
 
+pub invariant_of-question : goal.invariant_of-question
+invariant_of-question g c =
+    let same = c.marks-marks.ensures in
+    record { posed = rw same (posed_list g.K.Soft.kind c.args.plan.now c.args.values.now _ same c.if-values-marks.false (sym c.in_default.ensures)) }
+
 pub read-requires : goal.read-requires
 read-requires g c =
-    let kind = g.K.Soft.kind in
     let ms = marks_of c.args.plan.now in
     let same = c.marks-marks.ensures in
-    let facts = pile_facts kind (g.R.Reader.reading c.args.reader.now) ms (length c.args.soft.now) (length c.args.bits.now) c.in_default-check_pile.ensures.0 in
-    let posed = posed_list kind c.args.plan.now c.args.values.now _ same c.if-values-marks.false (sym c.in_default.ensures) in
+    let facts = pile_facts g.K.Soft.kind (g.R.Reader.reading c.args.reader.now) ms (length c.args.soft.now) (length c.args.bits.now) c.in_ok-check_pile.ensures.0 in
     let cut = c.split_at_mut-word.ensures in
     let long = ap length same in
     rw same record {
       taken = facts.0;
-      posed = posed;
       out_room = cut.front_len ∙ long;
       soft_room = omega (arith, facts.3);
       bit_room = omega (arith, facts.4, cut.back_len);
@@ -28,7 +30,7 @@ returns g c =
     let reading = g.R.Reader.reading c.args.reader.now in
     let ms = marks_of c.args.plan.now in
     let same = c.marks-marks.ensures in
-    let facts = pile_facts kind reading ms (length c.args.soft.now) (length c.args.bits.now) c.in_default-check_pile.ensures.0 in
+    let facts = pile_facts kind reading ms (length c.args.soft.now) (length c.args.bits.now) c.in_ok-check_pile.ensures.0 in
     let posed = posed_list kind c.args.plan.now c.args.values.now _ same c.if-values-marks.false (sym c.in_default.ensures) in
     record {
       value = search rules;

@@ -12,25 +12,25 @@ limit_more i most = add-mul i 1 most ∙ ap (λ n. i * most + n) (one-mul most)
 
 pub score-sum-requires : goal.score-sum-requires
 score-sum-requires g c =
-    let fits = λ (v : g.row.K.Denot). T (g.K.Soft.kind.fitting v c.args.turns) in
-    (turns_most _ _ c.requires.some c.requires.short, all_read fits c.args.values.now c.loop-i.i _ c.loop-i-test.true c.index-values-i.is c.requires.fits)
+    let fits = λ (v : g.row.K.Denot). T (g.K.Soft.kind.fitting v c.args.question.now.turns) in
+    (turns_most c.args.question.now.posed, all_read fits c.args.question.now.values.now c.loop-i.i _ c.loop-i-test.true c.v-item.is c.args.question.now.posed.fits)
 
 pub overflow_add-sum : goal.overflow_add-sum
 overflow_add-sum g c =
     let kind = g.K.Soft.kind in
-    let room = score_room kind.unit (length c.args.word.now) c.args.turns (c.loop-i.i + 1) g.met.K.Soft.rules.unit_most c.requires.short (omega (arith, c.requires.same)) in
-    omega (arith, ints, limit_more c.loop-i.i (limit kind c.args.turns), c.score-sum.ensures.fair.within, c.score-sum.ensures.value, c.loop-i.invariant.1)
+    let room = score_room kind.unit (length c.args.question.now.marks.now) c.args.question.now.turns (c.loop-i.i + 1) g.met.K.Soft.rules.unit_most c.args.question.now.posed.short (omega (arith, c.args.question.now.posed.same)) in
+    omega (arith, ints, limit_more c.loop-i.i (limit kind c.args.question.now.turns), c.score-sum.ensures.fair.within, c.score-sum.ensures.value, c.loop-i.invariant.1)
 
 pub loop-i-preserved : goal.loop-i-preserved
 loop-i-preserved g c =
     let fits = overflow_add-sum g c in
     let value = c.score-sum.ensures.value in
-    let step = score_more g.K.Scored.scoring c.args.turns c.args.values.now c.args.word.now c.loop-i.i _ c.loop-i-test.true (omega (arith, c.requires.same)) c.index-values-i.is in (
+    let step = score_more g.K.Scored.scoring c.args.question.now.turns c.args.question.now.values.now c.args.word.now c.loop-i.i _ c.loop-i-test.true (omega (arith, c.args.question.now.posed.same, c.requires)) c.v-item.is in (
       omega (arith, ints, c.loop-i.invariant.0),
-      omega (arith, ints, limit_more c.loop-i.i (limit g.K.Soft.kind c.args.turns), c.score-sum.ensures.fair.within, c.loop-i.invariant.1),
+      omega (arith, ints, limit_more c.loop-i.i (limit g.K.Soft.kind c.args.question.now.turns), c.score-sum.ensures.fair.within, c.loop-i.invariant.1),
     )
 
 pub returns : goal.returns
 returns g c =
-    let done = drop_all c.loop-i.i c.args.values.now c.loop-i-test.false in
+    let done = drop_all c.loop-i.i c.args.question.now.values.now c.loop-i-test.false in
     omega (arith, ints, rw done at c.loop-i.invariant.0)

@@ -6,6 +6,8 @@ use Rattle.scored_readers.proofs.exhaustive.score_word.Given as goal
 -- the sum so far and the score of the rest are the whole score
 abbrev pub invariant-loop-i : goal.invariant-loop-i
 invariant-loop-i g l =
-    let score = g.K.Scored.scoring in
-    (l.sum +ℤ word_score score l.turns (drop l.i l.values) (drop l.i l.word) ≡ word_score score l.turns l.values l.word)
-    × (nat_abs l.sum ≤ l.i * limit g.K.Soft.kind l.turns)
+    let turns = l.question.turns in
+    let values = l.question.values.now in
+    let score = word_score g.K.Scored.scoring turns in
+    (l.sum +ℤ score (drop l.i values) (drop l.i l.word) ≡ score values l.word)
+    × (nat_abs l.sum ≤ l.i * limit g.K.Soft.kind turns)

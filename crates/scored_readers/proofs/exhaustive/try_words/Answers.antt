@@ -14,20 +14,20 @@ in_front marks rows n is = ap (take (length marks - 0)) is ∙ take_front (lengt
 
 pub loop-number-init : goal.loop-number-init
 loop-number-init g c =
-    let marks = c.args.marks.now in
+    let marks = c.args.question.now.marks.now in
     let result = c.score_word-top.result in
     let back : to_z w32 (of_z w32 result) ≡ result = to_z-of_z w32 result (record { sfits = c.score_word-top.type_inv }) in
     let first = c.copy_from_slice.ensures.after ∙ in_front marks _ 0 c.put_first_words.ensures in
-    (c.put_first_words.ensures, (first, back ∙ c.score_word-top.ensures ∙ ap (word_score g.K.Scored.scoring c.args.turns c.args.values.now) first))
+    (c.put_first_words.ensures, (first, back ∙ c.score_word-top.ensures ∙ ap (word_score g.K.Scored.scoring c.args.question.now.turns c.args.question.now.values.now) first))
 
 pub slice_bounds-word-end : goal.slice_bounds-word-end
-slice_bounds-word-end g c = omega (arith, length_rows c.args.marks.now c.put_next_word.new.rows (c.loop-number.number + 1) 1 c.put_next_word.ensures)
+slice_bounds-word-end g c = omega (arith, length_rows c.args.question.now.marks.now c.put_next_word.new.rows (c.loop-number.number + 1) 1 c.put_next_word.ensures)
 
 pub loop-number-preserved : goal.loop-number-preserved
 loop-number-preserved g c =
-    let marks = c.args.marks.now in
+    let marks = c.args.question.now.marks.now in
     let word = data_word marks in
-    let score = λ (w : List Bool). word_score g.K.Scored.scoring c.args.turns c.args.values.now w in
+    let score = λ (w : List Bool). word_score g.K.Scored.scoring c.args.question.now.turns c.args.question.now.values.now w in
     let n = c.loop-number.number in
     let inv = c.loop-number.invariant in
     let made = c.put_next_word.ensures in
@@ -45,12 +45,12 @@ loop-number-preserved g c =
     )
 
 pub shape_of-rows : goal.shape_of-rows
-shape_of-rows g c = length_rows c.args.marks.now c.loop-number.rows c.loop-number.number 1 c.loop-number.invariant.0 ∙ sym c.requires.room.0
+shape_of-rows g c = length_rows c.args.question.now.marks.now c.loop-number.rows c.loop-number.number 1 c.loop-number.invariant.0 ∙ sym c.requires.room.0
 
 pub returns : goal.returns
 returns g c =
-    let marks = c.args.marks.now in
-    let f = λ (n : ℕ). word_score g.K.Scored.scoring c.args.turns c.args.values.now (data_word marks n) in
+    let marks = c.args.question.now.marks.now in
+    let f = λ (n : ℕ). word_score g.K.Scored.scoring c.args.question.now.turns c.args.question.now.values.now (data_word marks n) in
     let count = c.count_ones.ensures in
     let few : 2 ^ c.count_ones.result ≤ 256 = pow_mono {j = 8} (omega (arith, c.requires.few)) in
     let last : c.loop-number.number ≡ 2 ^ c.count_ones.result - 1 = omega (arith, c.loop-number.auto.number-end, c.loop-number-test.false) in

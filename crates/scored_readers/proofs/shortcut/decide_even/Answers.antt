@@ -13,7 +13,7 @@ even_sum word n is even = parity_count word ∙ ne_eqb (trues word % 2) 1 (λ od
 
 pub returns-then-count_ones-eq1 : goal.returns-then-count_ones-eq1
 returns-then-count_ones-eq1 g c =
-    let guess = map g.K.Soft.kind.decided c.args.values.now in
+    let guess = map g.K.Soft.kind.decided c.args.question.now.values.now in
     let place = c.find_weakest-place.result in
     let decided = c.decide_all.ensures in
     let odd = odd_sum guess _ (c.count_ones.ensures ∙ ap trues decided) c.if-count_ones-eq1.true in
@@ -23,6 +23,6 @@ returns-then-count_ones-eq1 g c =
 
 pub returns-else-count_ones-eq1 : goal.returns-else-count_ones-eq1
 returns-else-count_ones-eq1 g c =
-    let guess = map g.K.Soft.kind.decided c.args.values.now in
+    let guess = map g.K.Soft.kind.decided c.args.question.now.values.now in
     let decided = c.decide_all.ensures in
     decided ∙ sym (cond-false (parity guess) _ guess (even_sum guess _ (c.count_ones.ensures ∙ ap trues decided) c.if-count_ones-eq1.false))

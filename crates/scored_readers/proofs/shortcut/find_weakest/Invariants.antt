@@ -1,4 +1,4 @@
-use Rattle.std.proofs.Common.{◌≡◌, pos, neg_ℤ}
+use Rattle.std.proofs.Common.{◌≡◌, ◌-◌, pos, neg_ℤ}
 use Rattle.scored_readers.specs.ExhaustiveReading.{best}
 use Rattle.scored_readers.specs.ShortcutReading.{closeness}
 use Rattle.scored_readers.proofs.shortcut.find_weakest.Given as goal
@@ -7,4 +7,4 @@ use Rattle.scored_readers.proofs.shortcut.find_weakest.Given as goal
 abbrev pub invariant-loop-i : goal.invariant-loop-i
 invariant-loop-i g l =
     let f = closeness g.K.Scored.scoring l.turns l.values in
-    (l.place ≡ best f l.i) × (neg_ℤ (pos l.narrow) ≡ f (best f l.i))
+    (l.place ≡ best f (l.i - 1)) × (neg_ℤ (pos l.narrow) ≡ f (best f (l.i - 1)))
