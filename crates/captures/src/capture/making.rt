@@ -39,9 +39,7 @@ impl Capture {
             return Err(Refusal::Range);
         }
         let mut word = [0u8; MAX_LENGTH];
-        if let Err(refusal) = encode(plan, data, &mut word) {
-            return Err(refusal);
-        }
+        encode(plan, data, &mut word)?;
         let mut room = [0i16; MAX_LENGTH];
         let counts = &mut room[0..plan.length()];
         put_full_counts(&word[0..plan.length()], counts);
@@ -58,8 +56,8 @@ impl Capture {
         ensures { captured self.new ≡ capture_of marks.now counts.now exponent }
     {
         self.counts.clear();
-        let _ = self.counts.extend_from_slice(counts);
-        let _ = self.plan.set_marks(marks);
+        self.counts.extend_from_slice(counts).unwrap();
+        self.plan.set_marks(marks).unwrap();
         self.exponent = exponent;
     }
 }

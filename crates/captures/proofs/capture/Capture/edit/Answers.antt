@@ -11,7 +11,7 @@ use Rattle.captures.specs.Promises.{Charged, KeepsSign}
 use Rattle.captures.specs.Views.{captured}
 use Rattle.captures.proofs.Shortfalls.{charged, unchanged, kept_sign, weakened_sign}
 use Rattle.captures.proofs.capture.Capture.edit.Goals as goal
-use Rattle.captures.proofs.capture.Capture.edit.Goals.{In-Ok, After-index}
+use Rattle.captures.proofs.capture.Capture.edit.Goals.{In_ok-count, After-index}
 
 -- the count that stood at the place
 old_is : (c : After-index) → to_z w16 (of_z w16 c.index.result.now) ≡ get_or (vec_items c.args.self.now.counts) c.args.place (pos 0)
@@ -33,27 +33,27 @@ replacement-requires c =
 pub returns-then-place-len : goal.returns-then-place-len
 returns-then-place-len c = record { value = search rules; charged = unchanged top_count (captured c.args.self.now) _ c.args.edit refl; sign = kept_sign (captured c.args.self.now) _ c.args.edit refl }
 
-pub returns-in-Err : goal.returns-in-Err
-returns-in-Err c = record { value = search rules; charged = unchanged top_count (captured c.args.self.now) _ c.args.edit refl; sign = kept_sign (captured c.args.self.now) _ c.args.edit refl }
+pub returns-in_err-count : goal.returns-in_err-count
+returns-in_err-count c = record { value = search rules; charged = unchanged top_count (captured c.args.self.now) _ c.args.edit refl; sign = kept_sign (captured c.args.self.now) _ c.args.edit refl }
 
 -- the edit is in range, and its count is the one that is written
-allowed_is : (c : In-Ok) → allowed top_count c.args.edit ≡ true
-allowed_is c = (unless_none (allowed top_count c.args.edit) Range None c.in-Ok.ensures.value.0).0
+allowed_is : (c : In_ok-count) → allowed top_count c.args.edit ≡ true
+allowed_is c = (unless_none (allowed top_count c.args.edit) Range None c.in_ok-count.ensures.value.0).0
 
-pub returns-in-Ok : goal.returns-in-Ok
-returns-in-Ok c =
+pub returns : goal.returns
+returns c =
     let s = c.args.self.now in
     let before = captured s in
     let counts = vec_items s.counts in
     let place = c.args.place in
     let edit = c.args.edit in
-    let at = (goal.at.returns-in-Ok c).After-index in
+    let at = (goal.at.returns c).After-index in
     let here = here_is at in
-    let ok = allowed_is (goal.at.returns-in-Ok c).In-Ok in
-    let fits : SFits w16 c.in-Ok.count = search rules in
-    let new : to_z w16 (of_z w16 c.in-Ok.count) ≡ count_after top_count s.exponent edit (get_or counts place (pos 0)) =
-    to_z-of_z w16 c.in-Ok.count fits ∙ c.in-Ok.ensures.value.1 ∙ ap (count_after top_count s.exponent edit) (old_is at) in
-    let after : with_counts before (set counts place (to_z w16 (of_z w16 c.in-Ok.count))) ≡ edited_at top_count before place edit = ap (λ v. with_counts before (set counts place v)) new in
+    let ok = allowed_is (goal.at.returns c).In_ok-count in
+    let fits : SFits w16 c.in_ok-count.count = search rules in
+    let new : to_z w16 (of_z w16 c.in_ok-count.count) ≡ count_after top_count s.exponent edit (get_or counts place (pos 0)) =
+    to_z-of_z w16 c.in_ok-count.count fits ∙ c.in_ok-count.ensures.value.1 ∙ ap (count_after top_count s.exponent edit) (old_is at) in
+    let after : with_counts before (set counts place (to_z w16 (of_z w16 c.in_ok-count.count))) ≡ edited_at top_count before place edit = ap (λ v. with_counts before (set counts place v)) new in
     let due : edit_due top_count before place edit ≡ None = rw (lt-ltb place (length counts) here, ok) in
     record {
       value = (due, after);

@@ -5,23 +5,23 @@ use Rattle.captures.specs.Calls.{saved_bytes}
 use Rattle.captures.specs.Views.{captured}
 use Rattle.captures.proofs.Storing.{within_from_small, front_is}
 use Rattle.captures.proofs.capture.Capture.load.Goals as goal
-use Rattle.captures.proofs.capture.Capture.load.Goals.{In-Ok}
+use Rattle.captures.proofs.capture.Capture.load.Goals.{In_ok-header}
 
 -- the fronts of the two rows are what the bytes store
-marks_are : (c : In-Ok) → take (c.in-Ok.header.length - 0) c.load.new.marks ≡ c.in-Ok.ensures.loaded.1.content.marks
+marks_are : (c : In_ok-header) → take (c.in_ok-header.header.length - 0) c.load.new.marks ≡ c.in_ok-header.ensures.loaded.1.content.marks
 marks_are c =
-    let held = c.in-Ok.ensures.loaded.1 in
-    front_is c.in-Ok.header.length held.content.marks _ c.load.new.marks held.marks_are (sym held.length_is)
+    let held = c.in_ok-header.ensures.loaded.1 in
+    front_is c.in_ok-header.header.length held.content.marks _ c.load.new.marks held.marks_are (sym held.length_is)
 
-counts_are : (c : In-Ok) → take (c.in-Ok.header.length - 0) c.load.new.counts ≡ c.in-Ok.ensures.loaded.1.content.counts
+counts_are : (c : In_ok-header) → take (c.in_ok-header.header.length - 0) c.load.new.counts ≡ c.in_ok-header.ensures.loaded.1.content.counts
 counts_are c =
-    let held = c.in-Ok.ensures.loaded.1 in
-    front_is c.in-Ok.header.length held.content.counts _ c.load.new.counts held.counts_are (held.sound.paired ∙ sym held.length_is)
+    let held = c.in_ok-header.ensures.loaded.1 in
+    front_is c.in_ok-header.header.length held.content.counts _ c.load.new.counts held.counts_are (held.sound.paired ∙ sym held.length_is)
 
 pub replace-requires : goal.replace-requires
 replace-requires c =
-    let at = (goal.at.replace-requires c).In-Ok in
-    let held = c.in-Ok.ensures.loaded.1 in
+    let at = (goal.at.replace-requires c).In_ok-header in
+    let held = c.in_ok-header.ensures.loaded.1 in
     let sound = held.sound in
     record {
       plan = rw (marks_are at) (sound.some, (sound.short, sound.active));
@@ -30,10 +30,10 @@ replace-requires c =
       small = rw held.exponent_is sound.scaled;
     }
 
-pub returns-in-Ok : goal.returns-in-Ok
-returns-in-Ok c =
-    let at = (goal.at.returns-in-Ok c).In-Ok in
-    let loaded = c.in-Ok.ensures.loaded in
+pub returns : goal.returns
+returns c =
+    let at = (goal.at.returns c).In_ok-header in
+    let loaded = c.in_ok-header.ensures.loaded in
     let held = loaded.1 in
     let x = held.content in
     let is : captured c.replace.new.self ≡ capture_of x.marks x.counts x.exponent = c.replace.ensures ∙ rw (marks_are at, counts_are at, held.exponent_is) in

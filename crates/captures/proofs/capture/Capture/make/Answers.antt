@@ -1,4 +1,4 @@
-use Rattle.std.proofs.Common.{◌≡◌, ℕ, ◌-◌, ◌≤◌, false, ltb, map, length, take, sym, refl, ap, ◌∙◌, subst, arith}
+use Rattle.std.proofs.Common.{◌≡◌, ℕ, ◌-◌, ◌≤◌, false, ltb, map, length, take, sym, refl, ap, ◌∙◌, subst, arith, rules}
 use native.Mathlib.Nat.{sub-zero}
 use lib.ListN.{length-map}
 use Rattle.std.proofs.lemmas.Bool.{le-ltb}
@@ -29,7 +29,7 @@ counts_are c =
     let plan = c.args.plan.now in
     let w = codeword (marks_of plan) (bits c.args.«data».now) in
     let n = c.length-2.result in
-    let done = c.in_default.ensures.value.1 in
+    let done = c.in_ok-encode.ensures.value.1 in
     let front : take (n - 0) c.encode.new.out ≡ bytes w =
     ap (λ k. take k c.encode.new.out) (sub-zero n) ∙ ap (take n) done.1 ∙ front_bytes w _ n (length_codeword (marks_of plan) (bits c.args.«data».now) (sized plan).0 ∙ sym c.length-2.ensures) in
     c.put_full_counts.ensures ∙ ap (λ word. map (full top_count) (bits word)) front ∙ ap (map (full top_count)) (bits_bytes w)
@@ -48,10 +48,10 @@ replace-requires c =
       small = omega arith;
     }
 
-pub returns-in-Err : goal.returns-in-Err
-returns-in-Err c = (dues_agree (goal.at.returns-in-Err c).Else-exponent-gt6 ∙ c.in-Err.ensures.value.0, refl)
+pub returns-in_err-encode : goal.returns-in_err-encode
+returns-in_err-encode c = rw (dues_agree (goal.at.returns-in_err-encode c).Else-exponent-gt6) (search rules)
 
 pub returns : goal.returns
 returns c =
     let at = (goal.at.returns c).After-put_full_counts in
-    (dues_agree (goal.at.returns c).Else-exponent-gt6 ∙ c.in_default.ensures.value.0, c.replace.ensures ∙ ap (λ ms. capture_of ms c.put_full_counts.new.counts c.args.exponent) c.marks.ensures ∙ ap (λ counts. capture_of (marks_of c.args.plan.now) counts c.args.exponent) (counts_are at))
+    (dues_agree (goal.at.returns c).Else-exponent-gt6 ∙ c.in_ok-encode.ensures.value.0, c.replace.ensures ∙ ap (λ ms. capture_of ms c.put_full_counts.new.counts c.args.exponent) c.marks.ensures ∙ ap (λ counts. capture_of (marks_of c.args.plan.now) counts c.args.exponent) (counts_are at))
