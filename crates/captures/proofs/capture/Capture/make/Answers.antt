@@ -1,4 +1,4 @@
-use Rattle.std.proofs.Common.{◌≡◌, ℕ, ◌-◌, ◌≤◌, false, ltb, map, length, take, sym, refl, ap, ◌∙◌, subst, arith, rules}
+use Rattle.std.proofs.Common.{◌≡◌, ℕ, ◌-◌, ◌≤◌, false, ltb, map, length, take, sym, ap, ◌∙◌, subst, arith, rules}
 use native.Mathlib.Nat.{sub-zero}
 use lib.ListN.{length-map}
 use Rattle.std.proofs.lemmas.Bool.{le-ltb}
@@ -12,13 +12,13 @@ use Rattle.captures.specs.Captures.{capture_of, full}
 use Rattle.captures.specs.Calls.{make_due}
 use Rattle.captures.proofs.Counts.{within_from_all, full_within}
 use Rattle.captures.proofs.capture.Capture.make.Goals as goal
-use Rattle.captures.proofs.capture.Capture.make.Goals.{After-put_full_counts, Else-exponent-gt6}
+use Rattle.captures.proofs.capture.Capture.make.Goals.{After-put_full_counts, Else-exponent-gt-MAX_EXPONENT}
 
 not_above : (a b : ℕ) → a ≤ b → ltb b a ≡ false
 not_above a b h = le-ltb b a h
 
 -- with the exponent in range, making is refused just as encoding into the longest row is
-dues_agree : (c : Else-exponent-gt6) → make_due top_count (marks_of c.args.plan.now) c.args.exponent c.args.«data».now ≡ encode_due (marks_of c.args.plan.now) c.args.«data».now 4096
+dues_agree : (c : Else-exponent-gt-MAX_EXPONENT) → make_due top_count (marks_of c.args.plan.now) c.args.exponent c.args.«data».now ≡ encode_due (marks_of c.args.plan.now) c.args.«data».now 4096
 dues_agree c =
     let ms = marks_of c.args.plan.now in
     rw (not_above c.args.exponent 6 (omega arith), not_above (length ms) 4096 (sized c.args.plan.now).1)
@@ -49,9 +49,9 @@ replace-requires c =
     }
 
 pub returns-in_err-encode : goal.returns-in_err-encode
-returns-in_err-encode c = rw (dues_agree (goal.at.returns-in_err-encode c).Else-exponent-gt6) (search rules)
+returns-in_err-encode c = rw (dues_agree (goal.at.returns-in_err-encode c).Else-exponent-gt-MAX_EXPONENT) (search rules)
 
 pub returns : goal.returns
 returns c =
     let at = (goal.at.returns c).After-put_full_counts in
-    (dues_agree (goal.at.returns c).Else-exponent-gt6 ∙ c.in_ok-encode.ensures.value.0, c.replace.ensures ∙ ap (λ ms. capture_of ms c.put_full_counts.new.counts c.args.exponent) c.marks.ensures ∙ ap (λ counts. capture_of (marks_of c.args.plan.now) counts c.args.exponent) (counts_are at))
+    (dues_agree (goal.at.returns c).Else-exponent-gt-MAX_EXPONENT ∙ c.in_ok-encode.ensures.value.0, c.replace.ensures ∙ ap (λ ms. capture_of ms c.put_full_counts.new.counts c.args.exponent) c.marks.ensures ∙ ap (λ counts. capture_of (marks_of c.args.plan.now) counts c.args.exponent) (counts_are at))

@@ -1,4 +1,4 @@
-use Rattle.std.proofs.Common.{get_or, pos, ap, arith, w16, SFits, rules}
+use Rattle.std.proofs.Common.{◌≡◌, get_or, pos, ap, ◌∙◌, arith, w32, SFits, rules}
 use Rattle.std.proofs.lemmas.Int.{to_z-of_z}
 use Rattle.soft.specs.Whole.{short_of}
 use Rattle.polar.specs.Bytes.{bit}
@@ -8,10 +8,13 @@ use Rattle.captures.proofs.capture.questions.sum_shortfalls.Goals as goal
 
 pub loop-i-preserved : goal.loop-i-preserved
 loop-i-preserved c =
-    let more = shortfall_more c.args.counts.now c.args.word.now c.loop-i.i c.loop-i-test.true (omega (arith, c.requires.same)) top_count in
-    let fits : SFits w16 (get_or c.args.counts.now c.loop-i.i (pos 0)) = search rules in
-    let held = ap (λ v. short_of top_count v (bit (get_or c.args.word.now c.loop-i.i 0))) (to_z-of_z w16 (get_or c.args.counts.now c.loop-i.i (pos 0)) fits) in
-    (omega (arith, c.loop-i.invariant.0, more, c.count_shortfall-sum.ensures.value, held), omega (arith, c.loop-i.invariant.1, c.count_shortfall-sum.ensures.most))
+    let counts = c.args.counts.now in
+    let i = c.loop-i.i in
+    let more = shortfall_more counts c.args.word.now i c.loop-i-test.true (omega (arith, c.requires.same)) top_count in
+    let same : c.from.result ≡ get_or counts i (pos 0) = search rules in
+    let fits : SFits w32 c.from.result = search rules in
+    let held = ap (λ v. short_of top_count v (bit (get_or c.args.word.now i 0))) (to_z-of_z w32 c.from.result fits ∙ same) in
+    (omega (arith, c.loop-i.invariant.0, more, c.shortfall-sum.ensures.value, held), omega (arith, c.loop-i.invariant.1, c.shortfall-sum.ensures.most))
 
 pub returns : goal.returns
 returns c =
