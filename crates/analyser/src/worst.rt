@@ -93,7 +93,7 @@ fn write_codeword_places(plan: &Plan, data: &[u8], places: &mut [usize])
     ensures { places.new ≡ places_of (codeword (marks_of plan.now) (bits «data».now)) ++ drop (trues (codeword (marks_of plan.now) (bits «data».now))) places.old }
 {
     let mut word = [0u8; MAX_LENGTH];
-    let _ = encode(plan, data, &mut word);
+    encode(plan, data, &mut word).unwrap();
     write_places(&word[0..plan.length()], places);
 }
 
