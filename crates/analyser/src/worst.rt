@@ -53,11 +53,9 @@ fn first_lightest(marks: &[bool], weight: usize) -> usize
     requires least { LeastWeight (tree_of marks.now) marks.now weight }
     ensures { FirstLightest marks.now result }
 {
-    let mut leaf = 0;
-    while !weighs(marks, leaf, weight) {
-        leaf += 1;
-    }
-    leaf
+    (0..marks.len())
+        .find(|leaf| weighs(marks, *leaf, weight))
+        .unwrap()
 }
 
 // Writes the data word that has 1 at the datum of an active leaf alone.
@@ -76,12 +74,9 @@ fn write_places(word: &[u8], places: &mut [usize])
     requires { trues (bits word.now) ≤ length places.old }
     ensures { places.new ≡ places_of (bits word.now) ++ drop (trues (bits word.now)) places.old }
 {
-    let mut next = 0;
-    for (i, bit) in word.iter().enumerate() {
-        if *bit == 1 {
-            places[next] = i;
-            next += 1;
-        }
+    let ones = word.iter().enumerate().filter(|(_, bit)| **bit == 1);
+    for (next, (i, _)) in ones.enumerate() {
+        places[next] = i;
     }
 }
 

@@ -76,8 +76,7 @@ returns-clause-value g c =
     let from_front = λ (n : ℕ) (row : List ℕ). ap (λ k. take k row) (sub-zero n) in
     let fresh_front = from_front c.in_ok-fresh_len.fresh_len c.read_list.new.out ∙ fresh_data in
     let kept_front = from_front c.in_ok-kept_len.kept_len c.read_counts.new.out ∙ kept_data g c in
-    let decides = slice_eq-Decides Decides-eqb _ _ c.eq.result c.eq.ensures in
-    (
+    let decides = slice_eq-Decides Decides-eqb _ _ c.eq.result c.eq.ensures in (
       next g (goal.at.returns-clause-value g c).In_ok-check_pile ∙ list,
       (
         λ t. same_data (data_read fresh ms values) (data_kept (g.R.Reader.reading c.args.kept_reader.now) now) (sym fresh_front ∙ decides.0 t ∙ kept_front),
