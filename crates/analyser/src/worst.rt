@@ -19,22 +19,18 @@ use polar::tree::children;
 // The right branches on the way to a leaf of a block of `len` symbols.
 fn turns_of(len: usize, place: usize) -> usize
     requires { place < len }
-    ensures { result ≡ slice_index (turns (balanced len)) place }
+    ensures value { result ≡ slice_index (turns (balanced len)) place }
+    ensures few { result < len }
 {
-    let mut node = len;
-    let mut at = place;
-    let mut count = 0;
-    while node >= 2 {
-        let (left, right) = children(node);
-        if at < left {
-            node = left;
-        } else {
-            node = right;
-            at -= left;
-            count += 1;
-        }
+    if len < 2 {
+        return 0;
     }
-    count
+    let (left, right) = children(len);
+    if place < left {
+        turns_of(left, place)
+    } else {
+        1 + turns_of(right, place - left)
+    }
 }
 
 // Whether a leaf is active and has this weight, 2 to the right branches on the way to it.
