@@ -2,7 +2,7 @@ use Rattle.std.proofs.Common.{◌≡◌, ◌+◌, ◌*◌, ◌≤◌, drop}
 use Rattle.polar.specs.Bytes.{bits}
 use Rattle.captures.specs.Tops.{top_count}
 use Rattle.captures.specs.Captures.{shortfall}
-use Rattle.captures.proofs.capture.questions.sum_shortfalls.Given as goal
+use Rattle.captures.proofs.capture.Capture.shortfall.Given as goal
 
 abbrev pub invariant-loop-i : goal.invariant-loop-i
 invariant-loop-i l =
