@@ -1,9 +1,9 @@
 -- The loops of the two questions. Assumes nothing.
-use Rattle.std.proofs.Common.{◌≡◌, ℕ, suc, ◌+◌, ◌<◌, ◌≤◌, Bool, true, false, cond, List, [], ◌∷◌, length, get_or, drop, ℤ, pos, Some, sym, refl, ap, ◌∙◌, arith}
+use Rattle.std.proofs.Common.{◌≡◌, ℕ, suc, ◌+◌, ◌<◌, Bool, true, false, cond, List, [], ◌∷◌, length, get_or, drop, ℤ, pos, Some, sym, refl, ap, ◌∙◌, arith}
 use Rattle.std.specs.Option.{option_map}
 use Rattle.std.specs.List.{position, position_from, zip}
 use Rattle.std.proofs.lemmas.Iterator.Adapters.{position_from-zero}
-use Rattle.std.proofs.lemmas.List.{drop_more, drop_all}
+use Rattle.std.proofs.lemmas.List.{drop_more}
 use Rattle.polar.specs.Bytes.{bit, bits}
 use Rattle.polar.proofs.FirstPlaces.{from_zero, one_further}
 use Rattle.soft.specs.Whole.{short_of}
@@ -13,9 +13,6 @@ use Rattle.captures.specs.Captures.{shortfall, against, first_against}
 pub shortfall_more : (counts : List ℤ) (word : List ℕ) (i : ℕ) → i < length counts → i < length word → (top : ℕ)
     → shortfall top (drop i counts) (bits (drop i word)) ≡ short_of top (get_or counts i (pos 0)) (bit (get_or word i 0)) + shortfall top (drop (i + 1) counts) (bits (drop (i + 1) word))
 shortfall_more counts word i here there top = rw (drop_more counts i (pos 0) here, drop_more word i 0 there)
-
-pub shortfall_none : (top : ℕ) (counts : List ℤ) (word : List ℕ) (i : ℕ) → length counts ≤ i → shortfall top (drop i counts) (bits (drop i word)) ≡ 0
-shortfall_none top counts word i past = ap (λ vs. shortfall top vs (bits (drop i word))) (drop_all i counts past)
 
 -- the first contradiction is looked for among the pairs
 abbrev clash : ℤ × ℕ → Bool

@@ -1,4 +1,4 @@
-use Rattle.std.proofs.Common.{◌≡◌, ℕ, ap, ◌∙◌, ℤ, vec_items, rules}
+use Rattle.std.proofs.Common.{◌≡◌, ℕ, ◌∙◌, ℤ, vec_items, rules}
 use borrow.Author.Tests.{tests}
 use Rattle.std.specs.List.{position, zip}
 use Rattle.std.proofs.lemmas.Iterator.{YieldsList-from_slice, YieldsList-from_zip}

@@ -1,6 +1,5 @@
-use Rattle.std.proofs.Common.{◌≡◌, ℕ, ◌-◌, ◌≤◌, false, ltb, map, length, take, sym, ap, ◌∙◌, subst, arith, rules}
+use Rattle.std.proofs.Common.{◌≡◌, ℕ, ◌-◌, ◌≤◌, false, ltb, map, length, take, sym, ap, ◌∙◌, subst, arith}
 use native.Mathlib.Nat.{sub-zero}
-use lib.ListN.{length-map}
 use Rattle.std.proofs.lemmas.Bool.{le-ltb}
 use Rattle.polar.specs.Bytes.{bits, bytes}
 use Rattle.polar.specs.Codewords.{codeword}
@@ -34,22 +33,10 @@ counts_are c =
     ap (λ k. take k c.encode.new.out) (sub-zero n) ∙ ap (take n) done.1 ∙ front_bytes w _ n (length_codeword (marks_of plan) (bits c.args.«data».now) (sized plan).0 ∙ sym c.length-2.ensures) in
     c.put_full_counts.ensures ∙ ap (λ word. map (full top_count) (bits word)) front ∙ ap (map (full top_count)) (bits_bytes w)
 
-pub replace-requires : goal.replace-requires
-replace-requires c =
-    let at = (goal.at.replace-requires c).After-put_full_counts in
-    let plan = c.args.plan.now in
-    let w = codeword (marks_of plan) (bits c.args.«data».now) in
-    let size = sized plan in
-    let marks = c.marks.ensures in
-    record {
-      plan = rw marks (size.0, (size.1, size.2));
-      same = ap length (counts_are at) ∙ length-map w (full top_count) ∙ length_codeword (marks_of plan) (bits c.args.«data».now) (sized plan).0 ∙ ap length (sym marks);
-      within = subst (WithinTop top_count) (sym (counts_are at)) (within_from_all top_count (map (full top_count) w) (full_within top_count w));
-      small = omega arith;
-    }
-
-pub returns-in_err-encode : goal.returns-in_err-encode
-returns-in_err-encode c = rw (dues_agree (goal.at.returns-in_err-encode c).Else-exponent-gt-MAX_EXPONENT) (search rules)
+pub replace-requires-clause-within : goal.replace-requires-clause-within
+replace-requires-clause-within c =
+    let w = codeword (marks_of c.args.plan.now) (bits c.args.«data».now) in
+    subst (WithinTop top_count) (sym (counts_are (goal.at.replace-requires-clause-within c).After-put_full_counts)) (within_from_all top_count (map (full top_count) w) (full_within top_count w))
 
 pub returns : goal.returns
 returns c =
