@@ -1,9 +1,10 @@
 -- Comparing: which refusal is due, and what the two readings say. Assumes nothing.
-use Rattle.std.proofs.Common.{◌≡◌, ℕ, Bool, true, false, eqb, ltb, List, length, take, drop, Some, None, Option, sym, refl, ap, ◌∙◌, arith}
+use Rattle.std.proofs.Common.{◌≡◌, ℕ, Bool, true, false, eqb, ltb, List, length, take, drop, Some, None, Ok, Err, Option, Result, sym, refl, ap, ◌∙◌, arith}
+use Rattle.std.specs.Result.{IsErrAnd}
 use Rattle.std.proofs.lemmas.Bool.{le-ltb, eqb-true}
 use Rattle.polar.specs.declared.refusal.Refusal.{Refusal}
 use Rattle.polar.specs.declared.refusal.Refusal.TheVariants.{WorkingRoom, Output, NotTaken, ItemCount}
-use Rattle.polar.specs.Refusals.{refused_unless}
+use Rattle.polar.specs.Refusals.{Outcome, refused_unless}
 use Rattle.polar.specs.Words.{trues}
 use Rattle.polar.specs.Bytes.{bits, bytes}
 use Rattle.polar.specs.Codewords.{tree_of}
@@ -13,11 +14,21 @@ use Rattle.polar.proofs.Label.{length_unlabel}
 use Rattle.polar.proofs.Active.{length_collect}
 use Rattle.polar.proofs.Codes.{bits_bytes, front_bytes}
 use Rattle.polar.proofs.Sums.{trues_bound}
+use Rattle.polar.proofs.PlanFacts.{sized}
 use Rattle.soft.specs.Kind.{Kind}
 use Rattle.readers.specs.Readings.{Reading, ReaderRules, Posed}
 use Rattle.readers.specs.Blocks.{first_unfit, unfit_due, list_due, pile_due, output_due, DataWritten}
-use Rattle.analyser.specs.Assurance.{Planned}
+use Rattle.captures.specs.declared.capture.Capture.{Capture}
+use Rattle.captures.specs.Tops.{top_count}
+use Rattle.captures.specs.Views.{captured}
+use Rattle.analyser.specs.Assurance.{Planned, BoundCannotBeRaised}
 use Rattle.analyser.specs.Comparing.{data_read}
+use Rattle.analyser.proofs.Raised.{cannot_be_raised}
+
+-- the exit of a `?`
+pub refused : {X : Type 0} (accepted : X → Type 0) (kept : Type 0) {why : Refusal} (due : Option Refusal) (r : Result X Refusal) → IsErrAnd r (λ y. y ≡ why) → due ≡ Some why → kept → Outcome due r accepted kept
+refused accepted kept due (Ok x) by is same = absurd by
+refused accepted kept due (Err e) by is same = (is ∙ ap Some (sym by), same)
 
 -- a due that is found with nothing to follow is due whatever follows
 first_unless : (test : Bool) (e why : Refusal) (before later : Option Refusal) → refused_unless test e before ≡ Some why → (before ≡ Some why → later ≡ Some why) → refused_unless test e later ≡ Some why
@@ -35,6 +46,13 @@ module _ {K : Type 0} (reading : Reading K) (ms : List Bool) (soft_places bit_pl
       let taken = unless_none (reading.taking ms) NotTaken _ none in
       let room = unless_none _ WorkingRoom None taken.1 in
       unless_passes (reading.taking ms) NotTaken _ taken.0 ∙ unless_passes _ WorkingRoom later room.0
+
+pub planned : (s : Capture) → Planned (captured s).marks_row
+planned s = let size = sized s.plan in record { some = size.0; short = size.1; active = size.2 }
+
+-- nor can the bound of a capture's plan be raised
+pub raised_never : (s : Capture) → BoundCannotBeRaised top_count (captured s).marks_row
+raised_never s = cannot_be_raised top_count (captured s).marks_row (planned s)
 
 -- the longest row has room for all data
 pub output_never : (ms : List Bool) → Planned ms → output_due ms 4096 ≡ None

@@ -1,5 +1,7 @@
 -- The right branches on the way to a leaf, node by node, and the first lightest leaf. Assumes nothing.
-use Rattle.std.proofs.Common.{◌≡◌, ℕ, zero, suc, ◌+◌, ◌-◌, ◌/◌, ◌<◌, ◌≤◌, Bool, true, false, ◌&&◌, eqb, List, [], ◌∷◌, length, get_or, sym, refl, ap, ◌∙◌, subst, ⊎_elim, arith}
+use Rattle.std.proofs.Common.{◌≡◌, ℕ, zero, suc, ◌+◌, ◌-◌, ◌/◌, ◌<◌, ◌≤◌, Bool, true, false, ◌&&◌, eqb, List, [], ◌∷◌, length, get_or, Some, None, Option, sym, refl, ap, ◌∙◌, subst, ⊎_elim, arith}
+use Rattle.std.specs.List.{find, range_with_len}
+use Rattle.std.specs.Option.{IsSomeAnd, option_map}
 use Rattle.std.proofs.lemmas.Bool.{cases_Bool, cases_lt, and_parts, and_from, eqb-true, eq-eqb, false≢true}
 use Rattle.polar.specs.Shape.{balanced, leaves, turns}
 use Rattle.polar.specs.Codewords.{tree_of}
@@ -39,12 +41,12 @@ active_within (m ∷ ms) zero a = omega arith
 active_within (m ∷ ms) (suc i) a = omega (arith, active_within ms i a)
 
 -- every active leaf before this place weighs more than the plan
-abbrev pub HeavierBefore : List Bool → ℕ → Type 0
+abbrev HeavierBefore : List Bool → ℕ → Type 0
 HeavierBefore ms i = (j : ℕ) → j < i → get_or ms j false ≡ true → plan_weight ms < leaf_weight ms j
 
 module _ (ms : List Bool) (d : ℕ) (is : d ≡ plan_weight ms) (least : LeastWeight (tree_of ms) ms d) where
   -- then a leaf that weighs as much is still ahead
-  pub ahead : (i : ℕ) → HeavierBefore ms i → i < length ms
+  ahead : (i : ℕ) → HeavierBefore ms i → i < length ms
   ahead i all =
       let at = least.attained.0 in
       let active = least.attained.2 in
@@ -52,13 +54,13 @@ module _ (ms : List Bool) (d : ℕ) (is : d ≡ plan_weight ms) (least : LeastWe
       let within = active_within ms at active in
       ⊎_elim (λ before. absurd (omega (arith, all at before active))) (λ later. omega arith) (cases_lt at i)
 
-  pub found : (i : ℕ) → HeavierBefore ms i → (get_or ms i false && eqb (leaf_weight ms i) d) ≡ true → FirstLightest ms i
+  found : (i : ℕ) → HeavierBefore ms i → (get_or ms i false && eqb (leaf_weight ms i) d) ≡ true → FirstLightest ms i
   found i all holds =
       let parts = and_parts (get_or ms i false) (eqb (leaf_weight ms i) d) holds in
       record { within = ahead i all; active = parts.0; lightest = eqb-true (leaf_weight ms i) d parts.1 ∙ is; first = all }
 
   -- a leaf that is frozen or weighs something else is passed
-  pub passed : (i : ℕ) → HeavierBefore ms i → (get_or ms i false && eqb (leaf_weight ms i) d) ≡ false → HeavierBefore ms (i + 1)
+  passed : (i : ℕ) → HeavierBefore ms i → (get_or ms i false && eqb (leaf_weight ms i) d) ≡ false → HeavierBefore ms (i + 1)
   passed i all fails j before active =
       ⊎_elim
       (λ less. all j less active)
@@ -71,15 +73,23 @@ module _ (ms : List Bool) (d : ℕ) (is : d ≡ plan_weight ms) (least : LeastWe
       ⊎_elim (λ more. omega arith) (λ most. absurd (other (omega arith))) (cases_lt d (leaf_weight ms j)))
       (cases_lt j i)
 
-module _ (ms : List Bool) (least : LeastWeight (tree_of ms) ms (plan_weight ms)) where
-  search_from : (fuel i : ℕ) → length ms ≤ i + fuel → HeavierBefore ms i → (leaf : ℕ) × FirstLightest ms leaf
-  search_from zero i past all = absurd (omega (arith, ahead ms (plan_weight ms) refl least i all))
-  search_from (suc fuel) i past all =
+  -- so it is found, looked for from this place on
+  lightest_from : (n i : ℕ) → length ms ≤ i + n → HeavierBefore ms i → IsSomeAnd (find (λ j. get_or ms j false && eqb (leaf_weight ms j) d) (range_with_len i n)) (FirstLightest ms)
+  lightest_from zero i past all = absurd (omega (arith, ahead i all))
+  lightest_from (suc n) i past all =
       ⊎_elim
-      (λ holds. (i, found ms (plan_weight ms) refl least i all holds))
-      (λ fails. search_from fuel (i + 1) (omega arith) (passed ms (plan_weight ms) refl least i all fails))
-      (cases_Bool (get_or ms i false && eqb (leaf_weight ms i) (plan_weight ms)))
+      (λ holds. rw holds (found i all holds))
+      (λ fails. rw fails (lightest_from n (i + 1) (omega arith) (passed i all fails)))
+      (cases_Bool (get_or ms i false && eqb (leaf_weight ms i) d))
 
-  -- a first lightest leaf there is
-  pub some_first : (leaf : ℕ) × FirstLightest ms leaf
-  some_first = search_from (length ms) 0 (omega arith) (λ j before active. absurd (omega arith))
+  pub first_found : (o : Option ℕ) → option_map (λ i. i) o ≡ find (λ j. get_or ms j false && eqb (leaf_weight ms j) d) (range_with_len 0 (length ms)) → IsSomeAnd o (FirstLightest ms)
+  first_found None e = subst (λ o. IsSomeAnd o (FirstLightest ms)) (sym e) (lightest_from (length ms) 0 (omega arith) (λ j before active. absurd (omega arith)))
+  first_found (Some leaf) e = subst (λ o. IsSomeAnd o (FirstLightest ms)) (sym e) (lightest_from (length ms) 0 (omega arith) (λ j before active. absurd (omega arith)))
+
+-- a first lightest leaf there is
+pub some_first : (ms : List Bool) → LeastWeight (tree_of ms) ms (plan_weight ms) → (leaf : ℕ) × FirstLightest ms leaf
+some_first ms least = taken _ (lightest_from ms (plan_weight ms) refl least (length ms) 0 (omega arith) (λ j before active. absurd (omega arith)))
+  where
+    taken : (o : Option ℕ) → IsSomeAnd o (FirstLightest ms) → (leaf : ℕ) × FirstLightest ms leaf
+    taken None h = absurd h
+    taken (Some leaf) h = (leaf, h)

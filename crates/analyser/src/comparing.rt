@@ -18,6 +18,7 @@ use soft::kind::{Listed, Soft};
 
 // Reads a fresh list of values through one pile and a kept capture of the same plan by its counts through another, and answers whether
 // their data agree. `soft`, `counts` and `bits` are lent to work in.
+#[tactic(auto, using(crate::proofs::Comparisons::raised_never))]
 pub fn compare_readings<K: Listed, P: Reader<K>, R: Reader<Count>>(
     fresh_reader: &P,
     values: &[K],
@@ -34,24 +35,10 @@ pub fn compare_readings<K: Listed, P: Reader<K>, R: Reader<Count>>(
     ensures tight { BoundCannotBeRaised top_count (captured capture.now).marks_row }
 {
     let plan = capture.plan();
-    if let Err(refusal) = check_pile(kept_reader, plan, counts.len(), bits.len()) {
-        return Err(refusal);
-    }
+    check_pile(kept_reader, plan, counts.len(), bits.len())?;
     let mut fresh = [0u8; MAX_LENGTH];
-    let fresh_len = match read_list(fresh_reader, plan, values, soft, bits, &mut fresh) {
-        Ok(len) => len,
-        Err(refusal) => return Err(refusal),
-    };
+    let fresh_len = read_list(fresh_reader, plan, values, soft, bits, &mut fresh)?;
     let mut kept = [0u8; MAX_LENGTH];
-    match read_counts(kept_reader, capture, counts, bits, &mut kept) {
-        Ok(len) => Ok(same_bytes(&fresh[0..fresh_len], &kept[0..len])),
-        Err(refusal) => Err(refusal),
-    }
-}
-
-fn same_bytes(one: &[u8], other: &[u8]) -> bool
-    ensures same { result ≡ true → one.now ≡ other.now }
-    ensures equal { one.now ≡ other.now → result ≡ true }
-{
-    one == other
+    let kept_len = read_counts(kept_reader, capture, counts, bits, &mut kept)?;
+    Ok(fresh[0..fresh_len] == kept[0..kept_len])
 }

@@ -29,9 +29,7 @@ pub fn read_capture<K: Spoken, R: Reader<K>>(
     ensures near { IfOk result (λ k. NearReadsTrue K.Soft.kind (captured capture.now).marks_row (values_of K.Spoken.spoken (captured capture.now)) (take k out.new)) }
 {
     let plan = capture.plan();
-    if let Err(refusal) = check_pile(reader, plan, soft.len(), bits.len()) {
-        return Err(refusal);
-    }
+    check_pile(reader, plan, soft.len(), bits.len())?;
     if out.len() < plan.active() {
         return Err(Refusal::Output);
     }

@@ -19,22 +19,18 @@ use polar::tree::children;
 // The right branches on the way to a leaf of a block of `len` symbols.
 fn turns_of(len: usize, place: usize) -> usize
     requires { place < len }
-    ensures { result ≡ slice_index (turns (balanced len)) place }
+    ensures value { result ≡ slice_index (turns (balanced len)) place }
+    ensures few { result < len }
 {
-    let mut node = len;
-    let mut at = place;
-    let mut count = 0;
-    while node >= 2 {
-        let (left, right) = children(node);
-        if at < left {
-            node = left;
-        } else {
-            node = right;
-            at -= left;
-            count += 1;
-        }
+    if len < 2 {
+        return 0;
     }
-    count
+    let (left, right) = children(len);
+    if place < left {
+        turns_of(left, place)
+    } else {
+        1 + turns_of(right, place - left)
+    }
 }
 
 // Whether a leaf is active and has this weight, 2 to the right branches on the way to it.
@@ -53,11 +49,9 @@ fn first_lightest(marks: &[bool], weight: usize) -> usize
     requires least { LeastWeight (tree_of marks.now) marks.now weight }
     ensures { FirstLightest marks.now result }
 {
-    let mut leaf = 0;
-    while !weighs(marks, leaf, weight) {
-        leaf += 1;
-    }
-    leaf
+    (0..marks.len())
+        .find(|leaf| weighs(marks, *leaf, weight))
+        .unwrap()
 }
 
 // Writes the data word that has 1 at the datum of an active leaf alone.
@@ -76,12 +70,9 @@ fn write_places(word: &[u8], places: &mut [usize])
     requires { trues (bits word.now) ≤ length places.old }
     ensures { places.new ≡ places_of (bits word.now) ++ drop (trues (bits word.now)) places.old }
 {
-    let mut next = 0;
-    for (i, bit) in word.iter().enumerate() {
-        if *bit == 1 {
-            places[next] = i;
-            next += 1;
-        }
+    let ones = word.iter().enumerate().filter(|(_, bit)| **bit == 1);
+    for (next, (i, _)) in ones.enumerate() {
+        places[next] = i;
     }
 }
 
@@ -93,7 +84,7 @@ fn write_codeword_places(plan: &Plan, data: &[u8], places: &mut [usize])
     ensures { places.new ≡ places_of (codeword (marks_of plan.now) (bits «data».now)) ++ drop (trues (codeword (marks_of plan.now) (bits «data».now))) places.old }
 {
     let mut word = [0u8; MAX_LENGTH];
-    let _ = encode(plan, data, &mut word);
+    encode(plan, data, &mut word).unwrap();
     write_places(&word[0..plan.length()], places);
 }
 

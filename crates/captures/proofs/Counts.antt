@@ -1,7 +1,6 @@
 -- Counts within the top, and what the calls leave of them. Assumes nothing.
-use Rattle.std.proofs.Common.{◌≡◌, ℕ, suc, ◌<◌, ◌≤◌, Bool, true, false, List, [], ◌∷◌, map, length, get_or, set, ℤ, pos, negsuc, ◌+ℤ◌, neg_ℤ, nat_abs, ◌≤ℤ◌, Some, None, Option, unwrap_or, sym, refl, ap, ◌∙◌, subst, ⊎_elim, arith, length-set, get_or-set_other, get_or-set_same}
+use Rattle.std.proofs.Common.{◌≡◌, ℕ, suc, ◌<◌, ◌≤◌, Bool, true, false, List, [], ◌∷◌, map, length, get_or, set, ℤ, pos, negsuc, nat_abs, Some, None, Option, unwrap_or, sym, refl, ap, ◌∙◌, subst, ⊎_elim, arith, length-set, get_or-set_other, get_or-set_same}
 use borrow.Author.Differences.{ints}
-use lib.Signed.{lt_z}
 use lib.Ieee.{Float}
 use Rattle.std.proofs.lemmas.Bool.{cases_eq, leb-true}
 use Rattle.std.proofs.ByRecursion.{All-get_or}
@@ -39,21 +38,9 @@ within_set top counts place v within all new i h =
 
 -- ---- weakening
 
-pub weakened_below : (v : ℤ) (n : ℕ) → v ≤ℤ neg_ℤ (pos n) → weakened v n ≡ v +ℤ pos n
-weakened_below (pos v) n h = omega (arith, ints)
-weakened_below (negsuc v) n h = omega (arith, ints)
-
 pub weakened_within : (v : ℤ) (n top : ℕ) → nat_abs v ≤ top → nat_abs (weakened v n) ≤ top
 weakened_within (pos v) n top h = omega arith
 weakened_within (negsuc v) n top h = omega (arith, ints)
-
-pub weakened_up : (v : ℤ) (n : ℕ) → lt_z (pos 0) (weakened v n) ≡ true → lt_z (pos 0) v ≡ true
-weakened_up (pos v) n h = grind (arith, ints)
-weakened_up (negsuc v) n h = grind (arith, ints)
-
-pub weakened_down : (v : ℤ) (n : ℕ) → lt_z (weakened v n) (pos 0) ≡ true → lt_z v (pos 0) ≡ true
-weakened_down (pos v) n h = grind (arith, ints)
-weakened_down (negsuc v) n h = grind (arith, ints)
 
 -- ---- what an edit leaves
 

@@ -1,5 +1,5 @@
 -- What importing leaves of a capture, and that exporting and importing again leaves it equal. Assumes nothing.
-use Rattle.std.proofs.Common.{◌≡◌, ℕ, List, map, length, take, drop, ℤ, Some, Ok, Err, Result, sym, refl, ap, ◌∙◌, subst, arith, take_at}
+use Rattle.std.proofs.Common.{◌≡◌, ℕ, List, map, length, take, drop, Some, Ok, Err, Result, sym, refl, ap, ◌∙◌, subst, arith, take_at}
 use lib.ListN.{length-map}
 use lib.Ieee.{Float}
 use Rattle.polar.specs.declared.refusal.Refusal.{Refusal}
@@ -9,18 +9,7 @@ use Rattle.captures.specs.Tops.{WithinTop}
 use Rattle.captures.specs.Captures.{Captured, with_counts}
 use Rattle.captures.specs.Calls.{Answer, Exported, Imported}
 use Rattle.captures.specs.Promises.{Returns}
-use Rattle.captures.proofs.Counts.{within_from_all, all_from_within}
-
--- the counts of a capture after a row was imported in their place
-pub imported_is : (top : ℕ) (before : Captured) (levels : List Float) (counts : List ℤ) (answer : Answer)
-    → RowImported top before.scale_exponent levels before.count_row counts answer → Imported top before levels answer (with_counts before counts)
-imported_is top before levels counts (Ok u) row = (row.0, (refl, row.1))
-imported_is top before levels counts (Err e) row = (row.0, ap (with_counts before) row.1)
-
-pub imported_within : (top k : ℕ) (levels : List Float) (before counts : List ℤ) (answer : Answer) → RowImported top k levels before counts answer
-    → (answer ≡ Ok tt → AllWithin top counts) → WithinTop top before → WithinTop top counts
-imported_within top k levels before counts (Ok u) row all within = within_from_all top counts (all refl)
-imported_within top k levels before counts (Err e) row all within = subst (WithinTop top) (sym row.1) within
+use Rattle.captures.proofs.Counts.{all_from_within}
 
 refused_never : (e : Refusal) → ◌≡◌ {A = Answer} (Err e) (Ok tt) → ⊥
 refused_never e h = let z : ◌≡◌ {A = ℕ} 0 1 = cc in omega arith

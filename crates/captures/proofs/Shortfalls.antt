@@ -1,15 +1,14 @@
 -- How far one edit takes the counts from a word: at most by its charge. Assumes nothing.
-use Rattle.std.proofs.Common.{◌≡◌, ℕ, zero, suc, ◌+◌, ◌*◌, ◌<◌, ◌≤◌, Bool, true, false, List, [], ◌∷◌, map, length, get_or, set, ℤ, pos, negsuc, ◌-ℤ◌, nat_abs, sym, refl, ap, ◌∙◌, subst, ⊎_elim, arith, get_or-set_other, get_or-set_same}
+use Rattle.std.proofs.Common.{◌≡◌, ℕ, zero, suc, ◌+◌, ◌*◌, ◌<◌, ◌≤◌, Bool, true, false, List, [], ◌∷◌, map, length, get_or, set, ℤ, pos, negsuc, ◌-ℤ◌, nat_abs, refl, arith}
 use borrow.Author.Differences.{ints}
-use Rattle.std.proofs.lemmas.Bool.{cases_eq}
 use Rattle.soft.specs.Whole.{short_of}
 use Rattle.captures.specs.declared.edit.Edit.{Edit}
 use Rattle.captures.specs.declared.edit.Edit.TheVariants.{Erase, Count, Level, Weaken}
 use Rattle.captures.specs.Tops.{WithinTop}
 use Rattle.captures.specs.Captures.{Captured, full, shortfall}
 use Rattle.captures.specs.Calls.{allowed, charge, weakened, count_after, edited_at}
-use Rattle.captures.specs.Promises.{Charged, SameSide, KeepsSign}
-use Rattle.captures.proofs.Counts.{edit_within, weakened_up, weakened_down}
+use Rattle.captures.specs.Promises.{Charged}
+use Rattle.captures.proofs.Counts.{edit_within}
 
 -- a made capture falls short of its own codeword by nothing
 pub shortfall_full : (top : ℕ) (word : List Bool) → shortfall top (map (full top) word) word ≡ 0
@@ -55,32 +54,3 @@ charged top before place edit here within ok word =
     let old = get_or before.count_row place (pos 0) in
     shortfall_set top before.count_row word place (count_after top before.scale_exponent edit old) (charge top edit)
     (λ b. edit_charged top before.scale_exponent edit old b ok (within place here))
-
-pub unchanged : (top : ℕ) (before after : Captured) (edit : Edit) → after ≡ before → Charged top before edit after
-unchanged top before after edit same word = let e = ap (λ (c : Captured). shortfall top c.count_row word) same in omega arith
-
--- a weakening keeps every count on its side of zero
-same_side : (v : ℤ) → SameSide v v
-same_side v = (λ h. h, λ h. h)
-
-pub kept_sign : (before after : Captured) (edit : Edit) → after ≡ before → KeepsSign before edit after
-kept_sign before after Erase same = tt
-kept_sign before after (Count v) same = tt
-kept_sign before after (Level x) same = tt
-kept_sign before after (Weaken n) same = subst (λ (c : Captured). (i : ℕ) → SameSide (get_or before.count_row i (pos 0)) (get_or c.count_row i (pos 0))) (sym same) (λ i. same_side (get_or before.count_row i (pos 0)))
-
-pub weakened_sign : (top : ℕ) (before : Captured) (place : ℕ) (edit : Edit) → place < length before.count_row → KeepsSign before edit (edited_at top before place edit)
-weakened_sign top before place Erase here = tt
-weakened_sign top before place (Count v) here = tt
-weakened_sign top before place (Level x) here = tt
-weakened_sign top before place (Weaken n) here = λ i.
-    let counts = before.count_row in
-    let old = get_or counts place (pos 0) in
-    let new = weakened old n in
-    ⊎_elim
-    (λ same.
-    let at : get_or (set counts place new) i (pos 0) ≡ new = ap (λ k. get_or (set counts place new) k (pos 0)) same ∙ get_or-set_same counts place new (pos 0) here in
-    subst (λ w. SameSide (get_or counts i (pos 0)) w) (sym at)
-    (subst (λ k. SameSide (get_or counts k (pos 0)) new) (sym same) (weakened_down old n, weakened_up old n)))
-    (λ apart. subst (λ w. SameSide (get_or counts i (pos 0)) w) (sym (get_or-set_other counts place i new (pos 0) apart)) (same_side (get_or counts i (pos 0))))
-    (cases_eq i place)

@@ -1,5 +1,5 @@
 -- What saving and loading promise, from the laws of the stored form. Assumes nothing.
-use Rattle.std.proofs.Common.{◌≡◌, ℕ, zero, suc, ◌-◌, true, false, ◌&&◌, ◌||◌, eqb, ltb, leb, List, [], ◌∷◌, ◌++◌, length, take, drop, ℤ, nat_abs, Some, None, Ok, Err, Result, sym, refl, ap, ◌∙◌, arith, take_at}
+use Rattle.std.proofs.Common.{◌≡◌, ℕ, zero, suc, ◌-◌, true, false, ◌&&◌, ◌||◌, eqb, ltb, leb, List, [], ◌∷◌, ◌++◌, length, take, ℤ, nat_abs, Some, None, Ok, Err, Result, sym, refl, ap, ◌∙◌, arith, take_at}
 use native.Mathlib.Nat.{sub-zero}
 use Rattle.std.proofs.lemmas.Bool.{and_parts, leb-true, le-leb, lt-ltb, le-ltb, eq-eqb, ne_eqb}
 use Rattle.polar.specs.declared.refusal.Refusal.{Refusal}
@@ -13,7 +13,6 @@ use Rattle.storage.specs.Calls.{store_due, Stores, load_due}
 use Rattle.captures.specs.Tops.{WithinTop}
 use Rattle.captures.specs.Captures.{Captured, capture_of, content_in}
 use Rattle.captures.specs.Calls.{Answer, Saved, Loaded, saved_bytes}
-use Rattle.captures.specs.Promises.{LoadsBack}
 
 -- counts within the top, as a test and as a fact
 pub small_from_within : (top : ℕ) (counts : List ℤ) → WithinTop top counts → all_small top counts ≡ true
@@ -76,9 +75,3 @@ loads_back top c place bytes (Err e) after is gives done =
 pub saved_is : (top : ℕ) (c : Captured) (before after : List ℕ) (answer : Result ℕ Refusal) → Sound top (content_in c) → Stores top (content_in c) before answer after → Saved top c before answer after
 saved_is top c before after (Ok n) sound done = (sym (sound_due top c (length before) sound) ∙ done.0, (done.1.length_is, done.1.written))
 saved_is top c before after (Err e) sound done = (sym (sound_due top c (length before) sound) ∙ done.0, done.1)
-
-pub save_loads : (top : ℕ) (c : Captured) (before after : List ℕ) (answer : Result ℕ Refusal) → Stores top (content_in c) before answer after → LoadsBack top c answer after
-save_loads top c before after (Err e) done = tt
-save_loads top c before after (Ok n) done = λ place again later loaded.
-    let front : take n after ≡ saved_bytes top c = ap (take n) done.1.written ∙ take_at (saved_bytes top c) (drop n before) n (sym done.1.length_is) in
-    loads_back top c place (take n after) again later front done.1.loads loaded

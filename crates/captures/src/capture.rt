@@ -12,7 +12,7 @@ pub mod questions;
 pub mod storing;
 
 // The largest count.
-pub const TOP: u16 = 127;
+pub const TOP: u16 = storage::TOP;
 
 // A coded block as an analyser keeps it. A count is a whole number from -127 to 127, sure of bit 0 far above zero and of bit 1 far below.
 // Room for the longest block is reserved once, so that no later call needs memory.

@@ -1,7 +1,7 @@
 // What is done to one place of a capture.
 
 // An edit of one place, each charged by how far it can take the capture from the sender's word.
-#[derive(Clone, Copy)]
+#[derive(Clone, Copy, PartialEq, Debug)]
 pub enum Edit {
     // Nothing is known of the symbol any more: the count becomes 0.
     Erase,

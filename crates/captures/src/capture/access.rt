@@ -37,10 +37,7 @@ impl Capture {
     pub fn scale(&self) -> Scale
         ensures { exponent_of result.step ≡ (captured self.now).scale_exponent }
     {
-        match Scale::new(self.exponent) {
-            Ok(scale) => scale,
-            Err(_) => unreachable(),
-        }
+        Scale::new(self.exponent).unwrap()
     }
 
     // What an accepted edit of this capture is charged.

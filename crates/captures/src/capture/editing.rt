@@ -21,13 +21,9 @@ impl Capture {
         if place >= self.counts.len() {
             return Err(Refusal::Place);
         }
-        match self.replacement(self.counts[place], edit) {
-            Ok(count) => {
-                self.counts[place] = count;
-                Ok(())
-            }
-            Err(refusal) => Err(refusal),
-        }
+        let count = self.replacement(self.counts[place], edit)?;
+        self.counts[place] = count;
+        Ok(())
     }
 
     // The count that an edit leaves where `old` stood.

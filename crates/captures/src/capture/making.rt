@@ -8,11 +8,12 @@ ghost use Rattle.captures.specs.Captures.{capture_of, full, made_of};
 ghost use Rattle.captures.specs.Calls.{Made};
 ghost use Rattle.captures.specs.Views.{captured};
 
-use crate::capture::Capture;
+use crate::capture::{Capture, TOP};
 use polar::code::encode;
 use polar::plan::{MAX_LENGTH, Plan};
 use polar::refusal::Refusal;
 use std::alloc::{AllocError, Global};
+use storage::MAX_EXPONENT;
 
 impl Capture {
     // A place for captures. It holds the capture of datum 0 on the plan of length 1, with exponent 0, until a call replaces it.
@@ -21,7 +22,7 @@ impl Capture {
     {
         let plan = Plan::new(heap)?;
         let mut counts = Vec::with_capacity(heap, MAX_LENGTH)?;
-        counts.push_reserved(127);
+        counts.push_reserved(full_count(false));
         Ok(Capture {
             plan,
             counts,
@@ -35,13 +36,11 @@ impl Capture {
     pub fn make(&mut self, plan: &Plan, exponent: u8, data: &[u8]) -> Result<(), Refusal>
         ensures { Made top_count (captured self.old) (marks_of plan.now) exponent «data».now result (captured self.new) }
     {
-        if exponent > 6 {
+        if exponent > MAX_EXPONENT {
             return Err(Refusal::Range);
         }
         let mut word = [0u8; MAX_LENGTH];
-        if let Err(refusal) = encode(plan, data, &mut word) {
-            return Err(refusal);
-        }
+        encode(plan, data, &mut word)?;
         let mut room = [0i16; MAX_LENGTH];
         let counts = &mut room[0..plan.length()];
         put_full_counts(&word[0..plan.length()], counts);
@@ -58,8 +57,8 @@ impl Capture {
         ensures { captured self.new ≡ capture_of marks.now counts.now exponent }
     {
         self.counts.clear();
-        let _ = self.counts.extend_from_slice(counts);
-        let _ = self.plan.set_marks(marks);
+        self.counts.extend_from_slice(counts).unwrap();
+        self.plan.set_marks(marks).unwrap();
         self.exponent = exponent;
     }
 }
@@ -78,5 +77,6 @@ fn put_full_counts(word: &[u8], counts: &mut [i16])
 fn full_count(bit: bool) -> i16
     ensures { result ≡ full top_count bit }
 {
-    if bit { -127 } else { 127 }
+    let top = TOP as i16;
+    if bit { -top } else { top }
 }

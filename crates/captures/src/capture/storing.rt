@@ -31,13 +31,9 @@ impl Capture {
     {
         let mut marks = [false; MAX_LENGTH];
         let mut counts = [0; MAX_LENGTH];
-        match loading::load(bytes, &mut marks, &mut counts) {
-            Ok(header) => {
-                let n = header.length;
-                self.replace(&marks[0..n], &counts[0..n], header.exponent);
-                Ok(())
-            }
-            Err(refusal) => Err(refusal),
-        }
+        let header = loading::load(bytes, &mut marks, &mut counts)?;
+        let n = header.length;
+        self.replace(&marks[0..n], &counts[0..n], header.exponent);
+        Ok(())
     }
 }

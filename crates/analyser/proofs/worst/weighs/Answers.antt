@@ -11,7 +11,7 @@ few c =
     let ms = c.args.marks.now in
     let some : 1 ≤ length ms = omega (arith, c.requires.within) in
     let size = leaves_balanced (length ms) some in
-    omega (arith, c.turns_of.ensures, (leaf_weights (tree_of ms) (left_heavy_balanced (length ms) some) (omega (arith, size, c.requires.short)) c.args.leaf (omega (arith, size, c.requires.within))).1)
+    omega (arith, c.turns_of.ensures.value, (leaf_weights (tree_of ms) (left_heavy_balanced (length ms) some) (omega (arith, size, c.requires.short)) c.args.leaf (omega (arith, size, c.requires.within))).1)
 
 pub overflow_shl-result : goal.overflow_shl-result
 overflow_shl-result c = omega (arith, few c)
@@ -22,5 +22,5 @@ returns-then-marks-leaf c =
     let t = c.turns_of.result in
     let small : 2 ^ t ≤ 2 ^ 12 = pow_mono (few c) in
     let is : (1 * 2 ^ t) % 18446744073709551616 ≡ leaf_weight ms c.args.leaf =
-    mod-eq_of_lt (omega arith) ∙ one-mul (2 ^ t) ∙ ap (λ k. 2 ^ k) c.turns_of.ensures in
+    mod-eq_of_lt (omega arith) ∙ one-mul (2 ^ t) ∙ ap (λ k. 2 ^ k) c.turns_of.ensures.value in
     rw (c.if-marks-leaf.true, is)

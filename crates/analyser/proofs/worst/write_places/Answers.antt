@@ -1,61 +1,57 @@
-use Rattle.std.proofs.Common.{◌≡◌, ◌+◌, ◌<◌, true, false, length, get_or, take, sym, ap, ◌∙◌, append-nil, arith}
-use lib.ListN.{length-map}
-use Rattle.std.proofs.lemmas.List.{get_or-map, take_all}
-use Rattle.std.proofs.lemmas.Bool.{eq-eqb, ne_eqb}
+use Rattle.std.proofs.Common.{◌≡◌, ℕ, ◌<◌, eqb, length, get_or, ◌∙◌, arith, rules}
+use borrow.Author.Tests.{tests}
+use Rattle.std.proofs.lemmas.List.{length_push, take_all}
+use Rattle.std.proofs.lemmas.Iterator.{YieldsList-from_slice}
+use Rattle.std.proofs.lemmas.Iterator.Consumers.{YieldsList-at, YieldsList-from_enumerate, YieldsList-from_filter, YieldsList-turn, YieldsList-end}
 use Rattle.polar.specs.Words.{trues}
-use Rattle.polar.specs.Bytes.{bit, bits}
-use Rattle.polar.proofs.Active.{trues_take_more, trues_take_bound}
+use Rattle.polar.specs.Bytes.{bits}
 use Rattle.analyser.specs.Worst.{places_of}
-use Rattle.analyser.proofs.Places.{length_places, places_more, pushed}
+use Rattle.analyser.proofs.Places.{length_places, how_many, nth_found, pushed}
 use Rattle.analyser.proofs.worst.write_places.Goals as goal
-use Rattle.analyser.proofs.worst.write_places.Goals.{Then-bit-eq1, then-bit-eq1, else-bit-eq1}
+use Rattle.analyser.proofs.worst.write_places.Goals.{In-Some}
 
--- one place more fits
-room : (c : Then-bit-eq1) → c.loop-i.next < length c.args.places.now
-room c =
+-- this turn's number and place
+turn : (c : In-Some) → (length c.loop-next.yielded < trues (bits c.args.word.now)) × (c.in-Some.next ≡ length c.loop-next.yielded) × (c.in-Some.i ≡ get_or (places_of (bits c.args.word.now)) (length c.loop-next.yielded) 0)
+turn c =
     let word = c.args.word.now in
-    let i = c.loop-i.i in
-    let within : i < length (bits word) = omega (arith, length-map word bit, c.loop-i-test.true) in
-    let one : get_or (bits word) i false ≡ true = get_or-map bit word i 0 false c.loop-i-test.true ∙ eq-eqb (get_or word i 0) 1 c.if-bit-eq1.true in
-    omega (arith, c.loop-i.invariant.0, trues_take_more (bits word) i true within one, trues_take_bound (bits word) (i + 1), c.requires)
+    let t = YieldsList-turn
+    (YieldsList-at c.into_iter-next-iterator.ensures.into_iter_gives
+    (YieldsList-from_enumerate
+    (YieldsList-at c.enumerate-next-items.ensures.source
+    (YieldsList-from_filter _ (λ (p : ℕ × ℕ). eqb p.1 1)
+    (YieldsList-at c.filter-ones.ensures.source (YieldsList-from_enumerate (YieldsList-at c.enumerate.ensures.source (YieldsList-from_slice word (cc))) c.enumerate.ensures.count))
+    c.filter-ones.ensures.closure (λ x b q k. search (rules, tests))))
+    c.enumerate-next-items.ensures.count))
+    c.loop-next.yielded _ c.loop-next.yielded_by _ _ (c.in-Some.next, (c.in-Some.i, c.in-Some.field-0-1-1)) c.in-Some.is c.next.ensures.steps in
+    let at = nth_found word (length c.loop-next.yielded) _ t.0 t.1 in
+    (omega (arith, t.0, how_many word), at.0, at.1)
 
 pub bounds-places-next : goal.bounds-places-next
-bounds-places-next c = omega (arith, room c, c.loop-i.auto.places)
+bounds-places-next c = let t = turn c in omega (arith, t.0, t.1, c.loop-next.auto.places, c.requires)
 
 pub offset_bounds-places-next : goal.offset_bounds-places-next
-offset_bounds-places-next c = record { fits = omega (arith, room c, c.loop-i.auto.places) }
+offset_bounds-places-next c = let t = turn c in record { fits = omega (arith, t.0, t.1, c.loop-next.auto.places, c.requires) }
 
-pub overflow_add-next : goal.overflow_add-next
-overflow_add-next c = record { fits = omega (arith, room c, c.loop-i.auto.places) }
-
-pub loop-i-preserved : goal.loop-i-preserved
-loop-i-preserved c =
-    let word = c.args.word.now in
+pub loop-next-preserved : goal.loop-next-preserved
+loop-next-preserved c =
+    let ps = places_of (bits c.args.word.now) in
     let old = c.args.places.now in
-    let i = c.loop-i.i in
-    let within : i < length (bits word) = omega (arith, length-map word bit, c.loop-i-test.true) in
-    let read = get_or-map bit word i 0 false c.loop-i-test.true in
-    let front = places_of (take i (bits word)) in
-    let size : length front ≡ c.loop-i.next = length_places (take i (bits word)) ∙ sym c.loop-i.invariant.0 in
-    elim c.if-bit-eq1.branch [
-      | then-bit-eq1 w ↦
-          let one : get_or (bits word) i false ≡ true = read ∙ eq-eqb (get_or word i 0) 1 w.if-bit-eq1.true in
-          let count = trues_take_more (bits word) i true within one in
-          let more = places_more (bits word) i true within one in
-          let fits : c.loop-i.next < length old = omega (arith, c.loop-i.invariant.0, trues_take_bound (bits word) (i + 1), c.requires) in
-          let wrote = pushed front i old c.loop-i.next 0 size fits in
-          (omega (arith, w.next-is, c.loop-i.invariant.0), w.places-is ∙ rw c.loop-i.invariant.1 (wrote ∙ rw (w.next-is, more)))
-      | else-bit-eq1 w ↦
-          let none : get_or (bits word) i false ≡ false = read ∙ ne_eqb (get_or word i 0) 1 w.if-bit-eq1.false in
-          let count = trues_take_more (bits word) i false within none in
-          let more = places_more (bits word) i false within none ∙ append-nil front in
-          (omega (arith, w.next-is, c.loop-i.invariant.0), w.places-is ∙ c.loop-i.invariant.1 ∙ rw (w.next-is, more))
-    ]
+    let t = turn c in
+    let wrote = pushed ps old (length c.loop-next.yielded) (omega (arith, t.0, length_places (bits c.args.word.now))) (omega (arith, t.0, c.requires)) in
+    rw (length_push c.loop-next.yielded, t.1, t.2, c.loop-next.invariant) wrote
 
 pub returns : goal.returns
 returns c =
     let word = c.args.word.now in
-    let i = c.loop-i.i in
-    let all = take_all i (bits word) (omega (arith, length-map word bit, c.loop-i-test.false)) in
-    let next : c.loop-i.next ≡ trues (bits word) = c.loop-i.invariant.0 ∙ ap trues all in
-    c.loop-i.invariant.1 ∙ rw (all, next)
+    let ps = places_of (bits word) in
+    let all = YieldsList-end
+    (YieldsList-at c.into_iter-next-iterator.ensures.into_iter_gives
+    (YieldsList-from_enumerate
+    (YieldsList-at c.enumerate-next-items.ensures.source
+    (YieldsList-from_filter _ (λ (p : ℕ × ℕ). eqb p.1 1)
+    (YieldsList-at c.filter-ones.ensures.source (YieldsList-from_enumerate (YieldsList-at c.enumerate.ensures.source (YieldsList-from_slice word (cc))) c.enumerate.ensures.count))
+    c.filter-ones.ensures.closure (λ x b q k. search (rules, tests))))
+    c.enumerate-next-items.ensures.count))
+    c.loop-next.yielded _ c.loop-next.yielded_by _ _ c.in-None.is c.next.ensures.steps in
+    let many = all.1 ∙ how_many word in
+    rw (c.loop-next.invariant, many, take_all (trues (bits word)) ps (omega (arith, length_places (bits word))))

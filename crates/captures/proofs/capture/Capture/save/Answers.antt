@@ -1,13 +1,11 @@
-use Rattle.std.proofs.Common.{vec_items, sym, ◌∙◌, subst}
-use Rattle.polar.specs.Plans.{marks_of}
+use Rattle.std.proofs.Common.{vec_items, sym, ◌∙◌, rules}
 use Rattle.polar.proofs.PlanFacts.{sized}
-use Rattle.storage.specs.Contents.{content_of, Sound}
-use Rattle.storage.specs.Calls.{Stores}
+use Rattle.storage.specs.Contents.{Sound}
 use Rattle.captures.specs.Tops.{top_count}
 use Rattle.captures.specs.Captures.{content_in}
 use Rattle.captures.specs.Views.{captured}
 use Rattle.captures.specs.declared.capture.Capture.{Capture}
-use Rattle.captures.proofs.Storing.{small_from_within, saved_is, save_loads}
+use Rattle.captures.proofs.Storing.{small_from_within, saved_is}
 use Rattle.captures.proofs.capture.Capture.save.Goals as goal
 
 -- every capture can be stored
@@ -23,13 +21,7 @@ sound s =
       scaled = s.small;
     }
 
-pub returns : goal.returns
-returns c =
+pub returns-clause-value : goal.returns-clause-value
+returns-clause-value c =
     let s = c.args.self.now in
-    let done : Stores top_count (content_in (captured s)) c.args.out.now c.store.result c.store.new.out =
-    subst (λ vs. Stores top_count (content_of (marks_of s.plan) vs s.exponent) c.args.out.now c.store.result c.store.new.out) c.as_slice.ensures.value
-    (subst (λ ms. Stores top_count (content_of ms c.as_slice.result.now s.exponent) c.args.out.now c.store.result c.store.new.out) c.marks.ensures c.store.ensures.stores) in
-    record {
-      value = saved_is top_count (captured s) c.args.out.now c.store.new.out c.store.result (sound s) done;
-      loads = save_loads top_count (captured s) c.args.out.now c.store.new.out c.store.result done;
-    }
+    saved_is top_count (captured s) c.args.out.now c.store.new.out c.store.result (sound s) (search rules)
