@@ -1,5 +1,5 @@
 -- From a float to a count: what a rounding rule has to satisfy, and that clipping, rounding and the cast to an integer then follow `count_by`. Assumes nothing.
-use Rattle.std.proofs.Common.{◌≡◌, ℕ, zero, suc, ◌+◌, ◌-◌, ◌*◌, ◌/◌, ◌^◌, ◌<◌, ◌≤◌, min, Bool, true, false, cond, not, T, ltb, ℤ, pos, negsuc, neg_ℤ, nat_abs, Some, sym, refl, ap, ◌∙◌, inl, inr, true≢false, le_trans, le_of_eq, le_of_lt, mul-le-mul_right, div-lt_iff_lt-mul, le_antisymm, mul-one, div-mul-le_self, le_of_mul-le-mul_right, mul-div_cancel, arith, pow_pos, ltb-false, ltb-true}
+use Rattle.std.proofs.Common.{◌≡◌, ℕ, zero, suc, ◌+◌, ◌-◌, ◌*◌, ◌/◌, ◌^◌, ◌<◌, ◌≤◌, min, Bool, true, false, cond, not, T, ltb, ℤ, pos, negsuc, neg_ℤ, nat_abs, Some, unwrap_or, sym, refl, ap, ◌∙◌, inl, inr, true≢false, le_trans, le_of_eq, le_of_lt, mul-le-mul_right, div-lt_iff_lt-mul, le_antisymm, mul-one, div-mul-le_self, le_of_mul-le-mul_right, mul-div_cancel, arith, pow_pos, ltb-false, ltb-true}
 use native.Mathlib.Nat.{div-eq_of_lt-le}
 use lib.Ieee.{Float, nan, inf, fin, binary32, up, down, round, neg, mul, lt, is_nan, fits, to_signed}
 use lib.Ieee.Fits.{down_pos}
@@ -194,6 +194,20 @@ module _ (p : ℕ → ℕ → ℕ) (R : Rounds p) where
         sym (scaled x k y f n v)
         ∙ sym (converted (mul binary32 x y) (neg hi) hi (mul_number binary32 x y (2 ^ k) 1 n (pow_pos k) (omega arith) v) (negated hi t h) h)
         ∙ ap Some (ap (λ (u : Float). to_signed 15 (round_with p p binary32 u)) (sym e₀) ∙ sym e₁)
+
+    -- what is not a number stays so, and is cast to 0
+    counted_nan : (y hi z : Float) (r : ℤ) → HasValue hi false t 1 → z ≡ float_clamp (mul binary32 nan y) (neg hi) hi → r ≡ to_signed 15 (round_with p p binary32 z) → r ≡ pos 0
+    unfolding mul lt neg round_with to_signed
+    counted_nan y nan z r h e₀ e₁ = absurd h
+    counted_nan y (inf s) z r h e₀ e₁ = absurd h
+    counted_nan y (fin s m e) z r h e₀ e₁ = e₁ ∙ ap (λ (u : Float). to_signed 15 (round_with p p binary32 u)) e₀
+
+    pub counted_or_zero : (x : Float) (k : ℕ) (y hi z : Float) (r : ℤ) → T (fits binary32 x) → HasValue y false (2 ^ k) 1 → HasValue hi false t 1
+        → z ≡ float_clamp (mul binary32 x y) (neg hi) hi → r ≡ to_signed 15 (round_with p p binary32 z) → r ≡ unwrap_or (count_by p t k x) (pos 0)
+    unfolding is_nan
+    counted_or_zero nan k y hi z r f v h e₀ e₁ = counted_nan y hi z r h e₀ e₁
+    counted_or_zero (inf s) k y hi z r f v h e₀ e₁ = ap (λ o. unwrap_or o (pos 0)) (sym (counted (inf s) k y hi z r f tt v h e₀ e₁))
+    counted_or_zero (fin s m e) k y hi z r f v h e₀ e₁ = ap (λ o. unwrap_or o (pos 0)) (sym (counted (fin s m e) k y hi z r f tt v h e₀ e₁))
 
 -- ---- `nearest` is the nearest whole number
 pub rounding_stands : RoundingStands

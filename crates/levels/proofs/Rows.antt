@@ -1,7 +1,7 @@
 -- Rows of counts and levels: one element more, and the way there and back. Assumes nothing.
-use Rattle.std.proofs.Common.{◌≡◌, ℕ, zero, suc, ◌+◌, ◌^◌, ◌<◌, ◌≤◌, Bool, true, false, not, ◌&&◌, List, [], ◌∷◌, ◌++◌, map, length, get_or, take, drop, set, ℤ, Some, None, Ok, Err, Option, sym, refl, ap, ◌∙◌, arith, eq-eqb}
+use Rattle.std.proofs.Common.{◌≡◌, ℕ, zero, suc, ◌^◌, ◌<◌, ◌≤◌, Bool, true, false, not, ◌&&◌, List, [], ◌∷◌, map, length, get_or, ℤ, Some, None, Ok, Err, Option, sym, refl, ap, ◌∙◌, arith, eq-eqb, true≢false}
 use lib.Ieee.{Float, nan, inf, fin, is_nan}
-use Rattle.std.proofs.lemmas.List.{append_assoc, length-map, length-take-le, set_at, drop_more, map_more, map_push, take_more_set, take_all}
+use Rattle.std.proofs.lemmas.List.{length-map}
 use denote.Ref.{Bor}
 use Rattle.std.specs.Bool.{MatchBool}
 use Rattle.std.specs.Option.{option_map, IfSome, IsSomeAnd}
@@ -9,35 +9,11 @@ use Rattle.std.proofs.lemmas.Bool.{and_right}
 use Rattle.polar.specs.declared.refusal.Refusal.TheVariants.{Range, ItemCount}
 use Rattle.polar.specs.Refusals.{refused_unless}
 use Rattle.levels.specs.Rounding.{nearest}
-use Rattle.levels.specs.Level.{IsLevel, level_of, count_of}
+use Rattle.levels.specs.Conversion.{nearest_or_zero}
+use Rattle.levels.specs.Level.{signed, IsLevel, level_of, count_of}
 use Rattle.levels.specs.Rows.{all_are_numbers, AllWithin, import_due, RowsReturn}
 use Rattle.levels.proofs.Levels.{level_of_count}
 use Rattle.levels.proofs.Rounding.{nearest_rounds, back, within}
-
--- a row whose first i places hold f of the first i elements, and the others what they held
-pub written_more : {X Y : Type 0} (f : X → Y) (xs : List X) (old new : List Y) (i : ℕ) (d : X) (y : Y) → i < length xs → i < length old
-    → new ≡ map f (take i xs) ++ drop i old → y ≡ f (get_or xs i d) → set new i y ≡ map f (take (i + 1) xs) ++ drop (i + 1) old
-written_more {X} {Y} f xs old new i d y l m e h =
-    let P = map f (take i xs) in
-    let n : length P ≡ i = length-map (take i xs) f ∙ length-take-le i xs (omega arith) in
-    ap (λ (v : List Y). set v i y) (e ∙ ap (λ (v : List Y). P ++ v) (drop_more old i y m))
-    ∙ set_at P (get_or old i y) (drop (i + 1) old) y i n
-    ∙ sym (append_assoc P (y ∷ []) (drop (i + 1) old))
-    ∙ ap (λ (v : List Y). v ++ drop (i + 1) old) (ap (λ (z : Y). P ++ z ∷ []) h ∙ sym (map_more f xs i d l))
-
-pub written_all : {X Y : Type 0} (f : X → Y) (xs : List X) (old new : List Y) (i : ℕ) → i ≡ length xs → new ≡ map f (take i xs) ++ drop i old → new ≡ map f xs ++ drop (length xs) old
-written_all {X} {Y} f xs old new i n e = e ∙ (λ j. map f (take (n j) xs) ++ drop (n j) old) ∙ ap (λ (v : List X). map f v ++ drop (length xs) old) (take_all (length xs) xs (omega arith))
-
--- a row whose first i places hold the counts that g gives for the first i levels
-pub read_more : (g : Float → Option ℤ) (xs : List Float) (cs : List ℤ) (i : ℕ) (d : Float) (c : ℤ) → i < length xs → i < length cs
-    → map Some (take i cs) ≡ map g (take i xs) → g (get_or xs i d) ≡ Some c → map Some (take (i + 1) (set cs i c)) ≡ map g (take (i + 1) xs)
-read_more g xs cs i d c l m h e =
-    ap (map Some) (take_more_set cs i c m) ∙ map_push Some (take i cs) c
-    ∙ (λ j. h j ++ sym e j ∷ [])
-    ∙ sym (map_more g xs i d l)
-
-pub read_all : (g : Float → Option ℤ) (xs : List Float) (cs : List ℤ) (i : ℕ) → i ≡ length xs → length cs ≡ i → map Some (take i cs) ≡ map g (take i xs) → map Some cs ≡ map g xs
-read_all g xs cs i n m h = sym (ap (map Some) (take_all i cs (omega arith))) ∙ h ∙ ap (map g) (take_all i xs (omega arith))
 
 -- a row is one of numbers where each level is one, and not where some is none
 pub numbers_all : (xs : List Float) → ((k : ℕ) (d : Float) → k < length xs → is_nan (get_or xs k d) ≡ false) → all_are_numbers xs ≡ true
@@ -64,11 +40,20 @@ module _ {P : Bor Float → Type 0} (v : Float) (b : Bool) (says : (x : Bor Floa
   seen_and None e h = absurd h
   seen_and (Some x) e h = let same : v ≡ x.now = cc in ap is_nan same ∙ says x h
 
--- a level of a row of numbers is a number
-pub number_at : (xs : List Float) (i : ℕ) (d : Float) → i < length xs → all_are_numbers xs ≡ true → is_nan (get_or xs i d) ≡ false
-number_at [] i d l h = absurd (omega arith)
-number_at (x ∷ xs) zero d l h = grind arith
-number_at (x ∷ xs) (suc i) d l h = number_at xs i d (omega arith) (grind arith)
+-- the count of a level that is a number
+pub count_taken : (t k : ℕ) (x : Float) → is_nan x ≡ false → count_of t k x ≡ Some (nearest_or_zero t k x)
+unfolding is_nan
+count_taken t k nan h = absurd (true≢false h)
+count_taken t k (inf s) h = refl
+count_taken t k (fin s m e) h = refl
+
+-- counts of levels that are numbers
+pub counts_taken : (t k : ℕ) (xs : List Float) → all_are_numbers xs ≡ true → map Some (map (nearest_or_zero t k) xs) ≡ map (count_of t k) xs
+unfolding is_nan
+counts_taken t k [] h = refl
+counts_taken t k (nan ∷ xs) h = absurd (true≢false (sym h))
+counts_taken t k (inf s ∷ xs) h = ap (λ r. Some (signed s t) ∷ r) (counts_taken t k xs h)
+counts_taken t k (fin s m e ∷ xs) h = ap (λ r. count_of t k (fin s m e) ∷ r) (counts_taken t k xs h)
 
 level_number : (k : ℕ) (c : ℤ) (x : Float) → IsLevel k c x → is_nan x ≡ false
 unfolding is_nan

@@ -4,7 +4,7 @@ ghost use Rattle.std.specs.Float.Ieee.{to_signed};
 ghost use Rattle.std.specs.Float.{round_with, fin, binary32};
 ghost use Rattle.levels.specs.Rounding.{nearest, RoundingStands, ClippingCommutes};
 ghost use Rattle.levels.specs.Level.{largest_count, exponent_of, IsLevel, level_of, count_of};
-ghost use Rattle.levels.specs.Conversion.{Converted};
+ghost use Rattle.levels.specs.Conversion.{nearest_or_zero, Converted};
 
 use super::Scale;
 use polar::refusal::Refusal;
@@ -35,10 +35,9 @@ impl Scale {
         Ok(self.nearest_count(level))
     }
 
-    // The count of a level that is a number.
+    // The count of a level; 0 for what is not a number.
     pub(super) fn nearest_count(&self, level: f32) -> i16
-        requires { is_nan level ≡ false }
-        ensures { count_of largest_count (exponent_of self.now.step) level ≡ Some result }
+        ensures { result ≡ nearest_or_zero largest_count (exponent_of self.now.step) level }
     {
         let limit = self.limit();
         let scaled = level * self.factor();

@@ -5,6 +5,7 @@ ghost use Rattle.levels.specs.Rows.{all_are_numbers, AllWithin, RowExported, Row
 
 use super::Scale;
 use polar::refusal::Refusal;
+use polar::rows::{write_all, write_front};
 
 impl Scale {
     // Writes the levels of the counts and answers how many; what follows them stays. A short output
@@ -16,9 +17,10 @@ impl Scale {
         if out.len() < counts.len() {
             return Err(Refusal::Output);
         }
-        for (i, count) in counts.iter().enumerate() {
-            out[i] = self.level_of(*count);
-        }
+        write_front(
+            out,
+            counts.iter().copied().map(|count| self.level_of(count)),
+        );
         Ok(counts.len())
     }
 
@@ -34,9 +36,11 @@ impl Scale {
         if !all_numbers(levels) {
             return Err(Refusal::Range);
         }
-        for (i, level) in levels.iter().enumerate() {
-            counts[i] = self.nearest_count(*level);
-        }
+        let nearest = levels
+            .iter()
+            .copied()
+            .map(|level| self.nearest_count(level));
+        write_all(counts, nearest);
         Ok(())
     }
 }
