@@ -32,9 +32,9 @@ fn show<T: Drop>(rt: &HostRuntime, step: &str, answer: Result<T, Refusal>) -> an
 
 // Every node in reading order, with the weights of the leaves.
 fn show_walk(rt: &HostRuntime, plan: &Plan) -> anyhow::Result<()> {
-    let mut walk = Walk::new(plan.length())?;
+    let walk = Walk::new(plan.length())?;
     show_node(rt, plan.marks(), walk.node())?;
-    while let Some(node) = walk.advance() {
+    for node in walk {
         show_node(rt, plan.marks(), node)?;
     }
     Ok(())
