@@ -1,9 +1,9 @@
 -- A loop that writes a list's images over the front of another list. Assumes nothing.
-use Rattle.std.proofs.Common.{◌≡◌, ℕ, ◌+◌, ◌<◌, Bool, true, false, List, [], ◌∷◌, ◌++◌, map, length, get_or, take, drop, set, sym, refl, ap, ◌∙◌, arith, length-take-le}
+use Rattle.std.proofs.Common.{◌≡◌, ℕ, ◌+◌, ◌<◌, Bool, true, false, List, [], ◌∷◌, ◌++◌, map, length, get_or, drop, set, sym, refl, ap, ◌∙◌}
 use lib.ListN.{length-map}
 use lib.Seq.{append_snoc, set_at}
 use mir.Val.{bool_byte}
-use Rattle.std.proofs.lemmas.List.{map_push, take_more, drop_more}
+use Rattle.std.proofs.lemmas.List.{map_push, drop_more}
 use Rattle.polar.specs.Bytes.{byte}
 
 -- the library's byte of a bool is ours

@@ -68,15 +68,6 @@ fn write_active(marks: &[bool], labels: &[bool], out: &mut [u8])
     }
 }
 
-// Writes the labels of the leaves that a block's bits come from.
-fn put_leaf_labels_of(word: &[u8], labels: &mut [bool])
-    requires { length labels.old ≡ length word.now }
-    ensures { labels.new ≡ unlabel (balanced (length word.now)) (bits word.now) }
-{
-    put_bits(word, labels);
-    untransform(labels);
-}
-
 // Takes the data out of a block's bits in place: the bits become the labels of their leaves, and those of the active leaves
 // are written into the front of `out`, a byte for each. Answers how many they are.
 pub fn take_out(plan: &Plan, word: &mut [bool], out: &mut [u8]) -> Result<usize, Refusal>
@@ -102,14 +93,8 @@ pub fn extract(plan: &Plan, word: &[u8], out: &mut [u8]) -> Result<usize, Refusa
     ensures returns { IfOk result (λ n. (ds : List Bool) → length ds ≡ trues (marks_of plan.now) → bits word.now ≡ codeword (marks_of plan.now) ds → take n out.new ≡ bytes ds) }
 {
     plan.check_word(word)?;
-    let marks = plan.marks();
-    let active = plan.active();
-    if out.len() < active {
-        return Err(Refusal::Output);
-    }
     let mut room = [false; MAX_LENGTH];
-    let labels = &mut room[0..marks.len()];
-    put_leaf_labels_of(word, labels);
-    write_active(marks, labels, out);
-    Ok(active)
+    let labels = &mut room[0..word.len()];
+    put_bits(word, labels);
+    take_out(plan, labels, out)
 }
