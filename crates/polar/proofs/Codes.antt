@@ -1,11 +1,13 @@
 -- Codewords carry their data: what is written encodes them, and they are taken out again. Assumes nothing.
-use Rattle.std.proofs.Common.{◌≡◌, ℕ, ◌≤◌, Bool, true, false, List, [], ◌∷◌, ◌++◌, length, take, sym, refl, ap, ◌∙◌, take_at}
+use Rattle.std.proofs.Common.{◌≡◌, ℕ, ◌≤◌, Bool, true, false, List, [], ◌∷◌, ◌++◌, length, take, drop, Ok, Err, Result, IfOk, sym, refl, ap, ◌∙◌, take_at}
 use lib.ListN.{length-map}
 use Rattle.polar.specs.Shape.{balanced}
 use Rattle.polar.specs.Words.{trues}
 use Rattle.polar.specs.Bytes.{byte, bits, bytes}
 use Rattle.polar.specs.Marks.{spread, collect}
 use Rattle.polar.specs.Codewords.{codeword, data_of, Encodes, DataReturn}
+use Rattle.polar.specs.declared.refusal.Refusal.{Refusal}
+use Rattle.polar.specs.Plans.{TakenOut}
 use Rattle.polar.proofs.Shapes.{leaves_balanced}
 use Rattle.polar.proofs.Label.{length_label, unlabel_label}
 use Rattle.polar.proofs.Relation.{labelled_label}
@@ -50,3 +52,9 @@ pub taken_out : (ms w ds : List Bool) (rest : List ℕ) (n : ℕ) → 1 ≤ leng
 taken_out ms w ds rest n some is count code =
     let out : data_of ms w ≡ ds = ap (data_of ms) code ∙ data_return ms ds some count in
     rw out (front_bytes ds rest n (count ∙ sym is))
+
+-- the same of a call
+pub returned : (ms w labels : List Bool) (before after : List ℕ) (answer : Result ℕ Refusal) → 1 ≤ length ms → TakenOut ms w before answer labels after
+    → IfOk answer (λ n. (ds : List Bool) → length ds ≡ trues ms → w ≡ codeword ms ds → take n after ≡ bytes ds)
+returned ms w labels before after (Err e) some taken = tt
+returned ms w labels before after (Ok n) some taken = λ ds count code. rw taken.1.1 (taken_out ms w ds (drop n before) n some taken.1.0 count code)

@@ -18,4 +18,3 @@ pub mod Dues
 pub mod FirstPlaces
 pub mod Codes
 pub mod PlanFacts
-pub mod Fronts

@@ -17,7 +17,7 @@ pub fn are_bits(src: &[u8]) -> bool
 pub fn count_ones(word: &[bool]) -> usize
     ensures { result ≡ trues word.now }
 {
-    word.iter().filter(|b| **b).count()
+    word.iter().map(|b| usize::from(*b)).sum()
 }
 
 // Writes the bits that the bytes stand for.

@@ -12,7 +12,6 @@ use crate::bits::{are_bits, put_bits, write_bytes};
 use crate::labels::{transform, untransform};
 use crate::plan::{MAX_LENGTH, Plan};
 use crate::refusal::Refusal;
-use crate::rows::write_front;
 
 // Writes the labels of the leaves: the data at the active ones in order, 0 at the frozen ones.
 fn put_leaf_labels(marks: &[bool], data: &[u8], labels: &mut [bool])
@@ -59,17 +58,14 @@ fn write_active(marks: &[bool], labels: &[bool], out: &mut [u8])
     requires room { trues marks.now ≤ length out.old }
     ensures { out.new ≡ bytes (collect marks.now labels.now) ++ drop (trues marks.now) out.old }
 {
-    let active = marks.iter().zip(labels).filter(|(mark, _)| **mark);
-    write_front(out, active.map(|(_, label)| u8::from(*label)));
-}
-
-// Writes the labels of the leaves that a block's bits come from.
-fn put_leaf_labels_of(word: &[u8], labels: &mut [bool])
-    requires { length labels.old ≡ length word.now }
-    ensures { labels.new ≡ unlabel (balanced (length word.now)) (bits word.now) }
-{
-    put_bits(word, labels);
-    untransform(labels);
+    // (Counted by hand: where `write_front` takes a filtered chain, `extract` takes a fifth more time.)
+    let mut next = 0;
+    for (i, mark) in marks.iter().enumerate() {
+        if *mark {
+            out[next] = u8::from(labels[i]);
+            next += 1;
+        }
+    }
 }
 
 // Takes the data out of a block's bits in place: the bits become the labels of their leaves, and those of the active leaves
@@ -97,14 +93,8 @@ pub fn extract(plan: &Plan, word: &[u8], out: &mut [u8]) -> Result<usize, Refusa
     ensures returns { IfOk result (λ n. (ds : List Bool) → length ds ≡ trues (marks_of plan.now) → bits word.now ≡ codeword (marks_of plan.now) ds → take n out.new ≡ bytes ds) }
 {
     plan.check_word(word)?;
-    let marks = plan.marks();
-    let active = plan.active();
-    if out.len() < active {
-        return Err(Refusal::Output);
-    }
     let mut room = [false; MAX_LENGTH];
-    let labels = &mut room[0..marks.len()];
-    put_leaf_labels_of(word, labels);
-    write_active(marks, labels, out);
-    Ok(active)
+    let labels = &mut room[0..word.len()];
+    put_bits(word, labels);
+    take_out(plan, labels, out)
 }

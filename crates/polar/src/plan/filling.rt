@@ -28,6 +28,7 @@ impl Plan {
         if marks.len() != len || !are_bits(marks) {
             return Err(Refusal::Marks);
         }
+        // (A local row of the greatest length: no memory is taken, and the slice carries the length.)
         let mut room = [false; MAX_LENGTH];
         let word = &mut room[0..len];
         put_bits(marks, word);
@@ -49,7 +50,7 @@ impl Plan {
         Ok(())
     }
 
-    // Replaces the plan by a copy of another.
+    // Replaces the plan by a copy of another. (`Clone` would take memory.)
     pub fn copy_from(&mut self, other: &Plan)
         ensures { marks_of self.new ≡ marks_of other.now }
     {
@@ -64,7 +65,7 @@ impl Plan {
         ensures { marks_of self.new ≡ marks.now }
     {
         self.marks.clear();
-        let _ = self.marks.extend_from_slice(marks);
+        self.marks.extend_from_slice(marks).unwrap();
         self.active = active;
     }
 }

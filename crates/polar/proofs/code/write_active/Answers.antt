@@ -1,50 +1,55 @@
-use Rattle.std.proofs.Common.{◌≡◌, ℕ, Bool, true, false, List, [], ◌∷◌, map, length, refl, ap, ◌∙◌, rules, tests, arith}
-use Rattle.std.specs.List.{zip, filter}
-use Rattle.std.proofs.lemmas.List.{length-map}
-use Rattle.std.proofs.lemmas.Iterator.{YieldsList-from_slice, YieldsList-from_zip, YieldsList-from_map}
-use Rattle.std.proofs.lemmas.Iterator.Consumers.{YieldsList-at, YieldsList-from_filter}
+use Rattle.std.proofs.Common.{◌≡◌, ◌+◌, ◌<◌, true, false, length, get_or, take, sym, ap, ◌∙◌, append-nil, arith, length-take-le}
+use Rattle.std.proofs.lemmas.List.{take_all}
 use Rattle.polar.specs.Words.{trues}
-use Rattle.polar.specs.Bytes.{byte, bytes}
+use Rattle.polar.specs.Bytes.{byte}
 use Rattle.polar.specs.Marks.{collect}
-use Rattle.polar.proofs.Active.{length_collect}
-use Rattle.polar.proofs.Fronts.{front_room, front_items}
+use Rattle.polar.proofs.Active.{length_collect, collect_more, trues_take_more, trues_take_bound}
+use Rattle.polar.proofs.Written.{byte_is, written_push}
 use Rattle.polar.proofs.code.write_active.Goals as goal
+use Rattle.polar.proofs.code.write_active.Goals.{then-mark, else-mark}
 
--- what the chain gives
-abbrev active : List Bool → List Bool → List ℕ
-active ms bs = map (λ p. byte p.1) (filter (λ p. p.0) (zip ms bs))
+pub bounds-out-next : goal.bounds-out-next
+bounds-out-next c =
+    let marks = c.args.marks.now in
+    let i = c.loop-i.i in
+    omega (arith, c.loop-i.invariant.0, trues_take_more marks i true c.loop-i-test.true c.if-mark.true, trues_take_bound marks (i + 1))
 
-active_is : (ms bs : List Bool) → active ms bs ≡ bytes (collect ms bs)
-active_is [] bs = refl
-active_is (m ∷ ms) [] = refl
-active_is (true ∷ ms) (b ∷ bs) = ap (◌∷◌ (byte b)) (active_is ms bs)
-active_is (false ∷ ms) (b ∷ bs) = active_is ms bs
+pub overflow_add-next : goal.overflow_add-next
+overflow_add-next c =
+    let marks = c.args.marks.now in
+    let i = c.loop-i.i in
+    record { fits = omega (arith, c.loop-i.invariant.0, trues_take_more marks i true c.loop-i-test.true c.if-mark.true, trues_take_bound marks (i + 1)) }
 
-length_active : (ms bs : List Bool) → length bs ≡ length ms → length (active ms bs) ≡ trues ms
-length_active ms bs same = ap length (active_is ms bs) ∙ length-map (collect ms bs) byte ∙ length_collect ms bs same
-
-pub write_front-requires-clause-room : goal.write_front-requires-clause-room
-write_front-requires-clause-room c =
-    front_room _
-    (YieldsList-from_map _ (λ p. byte p.1)
-    (YieldsList-at c.map.ensures.source
-    (YieldsList-from_filter _ (λ p. p.0)
-    (YieldsList-at c.filter-active.ensures.source
-    (YieldsList-from_zip (YieldsList-from_slice c.args.marks.now cc) (YieldsList-from_slice c.args.labels.now c.zip.ensures.second.0)))
-    c.filter-active.ensures.closure (λ x r q k. search (rules, tests))))
-    c.map.ensures.closure (λ x r q k. search (rules, tests)))
-    (omega (arith, c.requires.room, length_active c.args.marks.now c.args.labels.now c.requires.same_len))
+pub loop-i-preserved : goal.loop-i-preserved
+loop-i-preserved c =
+    let marks = c.args.marks.now in
+    let labels = c.args.labels.now in
+    let out = c.args.out.now in
+    let i = c.loop-i.i in
+    let within = c.loop-i-test.true in
+    let front = collect (take i marks) (take i labels) in
+    let size : length front ≡ c.loop-i.next =
+    length_collect (take i marks) (take i labels) (length-take-le i labels (omega arith) ∙ sym (length-take-le i marks (omega arith))) ∙ sym c.loop-i.invariant.0 in
+    elim c.if-mark.branch [
+      | then-mark w ↦
+          let count = trues_take_more marks i true within w.if-mark.true in
+          let more = collect_more marks labels i true c.requires.same_len within w.if-mark.true in
+          let room : c.loop-i.next < length out = omega (arith, c.loop-i.invariant.0, trues_take_bound marks (i + 1)) in
+          let wrote = written_push byte front (get_or labels i false) out c.loop-i.next 0 size room in
+          let is : w.from.result ≡ byte (get_or labels i false) = w.from.ensures ∙ byte_is (get_or labels i false) in
+          (omega (arith, w.next-is, c.loop-i.invariant.0), w.out-is ∙ rw (is, c.loop-i.invariant.1) (wrote ∙ rw (w.next-is, more)))
+      | else-mark w ↦
+          let count = trues_take_more marks i false within w.if-mark.false in
+          let more = collect_more marks labels i false c.requires.same_len within w.if-mark.false ∙ append-nil front in
+          (omega (arith, w.next-is, c.loop-i.invariant.0), w.out-is ∙ c.loop-i.invariant.1 ∙ rw (w.next-is, more))
+    ]
 
 pub returns : goal.returns
 returns c =
-    let ms = c.args.marks.now in
-    let bs = c.args.labels.now in
-    front_items c.write_front.result c.args.out.now c.write_front.new.out
-    (YieldsList-from_map _ (λ p. byte p.1)
-    (YieldsList-at c.map.ensures.source
-    (YieldsList-from_filter _ (λ p. p.0)
-    (YieldsList-at c.filter-active.ensures.source (YieldsList-from_zip (YieldsList-from_slice ms cc) (YieldsList-from_slice bs c.zip.ensures.second.0)))
-    c.filter-active.ensures.closure (λ x r q k. search (rules, tests))))
-    c.map.ensures.closure (λ x r q k. search (rules, tests)))
-    c.write_front.ensures.runs
-    ∙ rw (length_active ms bs c.requires.same_len, active_is ms bs) refl
+    let marks = c.args.marks.now in
+    let labels = c.args.labels.now in
+    let i = c.loop-i.i in
+    let all_marks = take_all i marks c.loop-i-test.false in
+    let all_labels = take_all i labels (omega arith) in
+    let next : c.loop-i.next ≡ trues marks = c.loop-i.invariant.0 ∙ ap trues all_marks in
+    c.loop-i.invariant.1 ∙ rw (all_marks, all_labels, next)
