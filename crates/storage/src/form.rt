@@ -103,7 +103,8 @@ impl Form {
         requires room { length self.old + length (flat_map number (runs marks.now)) ≤ LONGEST }
         ensures { self.new ≡ self.old ++ flat_map number (runs marks.now) }
     {
-        if marks[0] {
+        let active = marks[0];
+        if active {
             self.push_number(0);
         }
         for run in marks.chunk_by(|a, b| a == b) {
