@@ -41,7 +41,7 @@ fn coded(v: i16) -> u32
 }
 
 impl Form {
-    fn new() -> Self
+    pub(crate) fn new() -> Self
         ensures { result ≡ [] }
     {
         Form {
@@ -50,18 +50,17 @@ impl Form {
         }
     }
 
-    // The stored form of marks, counts and exponent.
-    pub(crate) fn of(marks: &[bool], counts: &[i16], exponent: u8) -> Self
-        requires { Sound top_count (content_of marks.now counts.now exponent) }
-        ensures { result ≡ stored top_count (content_of marks.now counts.now exponent) }
+    // Writes the stored form of marks, counts and exponent.
+    pub(crate) fn push_content(&mut self, marks: &[bool], counts: &[i16], exponent: u8)
+        requires empty { self.old ≡ [] }
+        requires sound { Sound top_count (content_of marks.now counts.now exponent) }
+        ensures { self.new ≡ stored top_count (content_of marks.now counts.now exponent) }
     {
-        let mut form = Form::new();
-        form.push_number(VERSION);
-        form.push_number(marks.len() as u32);
-        form.push_number(u32::from(exponent));
-        form.push_runs(marks);
-        form.push_counts(counts);
-        form
+        self.push_number(VERSION);
+        self.push_number(marks.len() as u32);
+        self.push_number(u32::from(exponent));
+        self.push_runs(marks);
+        self.push_counts(counts);
     }
 
     pub(crate) fn as_slice(&self) -> &[u8]
@@ -103,7 +102,8 @@ impl Form {
         requires room { length self.old + length (flat_map number (runs marks.now)) ≤ LONGEST }
         ensures { self.new ≡ self.old ++ flat_map number (runs marks.now) }
     {
-        if marks[0] {
+        let active = marks[0];
+        if active {
             self.push_number(0);
         }
         for run in marks.chunk_by(|a, b| a == b) {

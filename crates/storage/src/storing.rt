@@ -38,7 +38,8 @@ pub fn store(marks: &[bool], counts: &[i16], exponent: u8, out: &mut [u8]) -> Re
     if !are_small(counts) || exponent > MAX_EXPONENT {
         return Err(Refusal::Range);
     }
-    let form = Form::of(marks, counts, exponent);
+    let mut form = Form::new();
+    form.push_content(marks, counts, exponent);
     let bytes = form.as_slice();
     if out.len() < bytes.len() {
         return Err(Refusal::Output);

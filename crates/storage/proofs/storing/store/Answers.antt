@@ -5,12 +5,12 @@ use Rattle.storage.specs.Stored.{stored}
 use Rattle.storage.specs.Calls.{store_due}
 use Rattle.storage.proofs.RoundTrip.{loads_what_is_stored}
 use Rattle.storage.proofs.storing.store.Goals as goal
-use Rattle.storage.proofs.storing.store.Goals.{After-of-form}
+use Rattle.storage.proofs.storing.store.Goals.{After-push_content}
 
 none_due : (top : ℕ) (c : Content) (room : ℕ) → Sound top c → length (stored top c) ≤ room → store_due top c room ≡ None
 none_due top c room s h = grind (arith, nat_tests)
 
-sound : (c : After-of-form) → Sound top_count (content_of c.args.marks.now c.args.counts.now c.args.exponent)
+sound : (c : After-push_content) → Sound top_count (content_of c.args.marks.now c.args.counts.now c.args.exponent)
 sound c = record {
   some = grind (arith, nat_tests, c.if-is_empty.false, c.is_empty.ensures);
   short = c.if-marks-gt-MAX_LENGTH.false;
@@ -23,8 +23,8 @@ sound c = record {
 pub returns-clause-stores : goal.returns-clause-stores
 returns-clause-stores c =
     let content = content_of c.args.marks.now c.args.counts.now c.args.exponent in
-    let s = sound (goal.at.returns-clause-stores c).After-of-form in
-    let form : c.as_slice-bytes.result.now ≡ stored top_count content = c.as_slice-bytes.ensures ∙ c.of-form.ensures in (
+    let s = sound (goal.at.returns-clause-stores c).After-push_content in
+    let form : c.as_slice-bytes.result.now ≡ stored top_count content = c.as_slice-bytes.ensures ∙ c.push_content.ensures in (
       none_due top_count _ _ s (omega (arith, ap length form)),
       record {
         length_is = ap length form;

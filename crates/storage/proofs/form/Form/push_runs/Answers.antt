@@ -7,21 +7,21 @@ use Rattle.storage.specs.Stored.{number}
 use Rattle.storage.proofs.RoundTrip.{runs_behind}
 use Rattle.storage.proofs.Turns.{chunk_behind, runs_active, runs_frozen}
 use Rattle.storage.proofs.form.Form.push_runs.Goals as goal
-use Rattle.storage.proofs.form.Form.push_runs.Goals.{then-marks, else-marks}
+use Rattle.storage.proofs.form.Form.push_runs.Goals.{then-active, else-active}
 
 -- where the first mark is active
 pub push_number-requires-clause-room : goal.push_number-requires-clause-room
 push_number-requires-clause-room c =
-    let active = runs_active c.args.marks.now c.requires.sized.0 c.if-marks.true in
+    let active = runs_active c.args.marks.now c.requires.sized.0 c.if-active.true in
     omega (arith, c.requires.room, simp length-append at (ap (λ ns. length (flat_map number ns)) active))
 
 pub loop-run-init : goal.loop-run-init
 loop-run-init c =
     let all : chunk_by_rest c.into_iter-run-iterator.result ≡ c.args.marks.now = ap chunk_by_rest c.into_iter-run-iterator.ensures.into_iter_gives ∙ c.chunk_by-run-items.ensures.rest in (
       omega (arith, ap length all, c.requires.sized.1),
-      ap (λ l. c.if-marks.self ++ flat_map number (runs_behind l)) all ∙ elim c.if-marks.branch [
-        | then-marks w ↦ rw (w.self-is, w.push_number.ensures, append_assoc) (ap (λ ns. c.args.self.now ++ flat_map number ns) (sym (runs_active c.args.marks.now c.requires.sized.0 w.if-marks.true)))
-        | else-marks w ↦ rw w.self-is (ap (λ ns. c.args.self.now ++ flat_map number ns) (sym (runs_frozen c.args.marks.now c.requires.sized.0 w.if-marks.false)))
+      ap (λ l. c.if-active.self ++ flat_map number (runs_behind l)) all ∙ elim c.if-active.branch [
+        | then-active w ↦ rw (w.self-is, w.push_number.ensures, append_assoc) (ap (λ ns. c.args.self.now ++ flat_map number ns) (sym (runs_active c.args.marks.now c.requires.sized.0 w.if-active.true)))
+        | else-active w ↦ rw w.self-is (ap (λ ns. c.args.self.now ++ flat_map number ns) (sym (runs_frozen c.args.marks.now c.requires.sized.0 w.if-active.false)))
       ],
     )
 
