@@ -55,22 +55,16 @@ same_content a b e =
     let k : a.scale_exponent ≡ b.scale_exponent = ap (λ (c : Content). c.exponent) e in
     ap (λ m. capture_of m a.count_row a.scale_exponent) ms ∙ ap (λ v. capture_of b.marks_row v a.scale_exponent) vs ∙ ap (capture_of b.marks_row b.count_row) k
 
-same_ok : (a b : Content) → ◌≡◌ {A = Result Content Refusal} (Ok a) (Ok b) → a ≡ b
-same_ok a b e = cc
-
 -- loading the stored form of a capture gives that capture
 pub loads_back : (top : ℕ) (c place : Captured) (bytes : List ℕ) (again : Answer) (after : Captured) → bytes ≡ saved_bytes top c → outcome top (saved_bytes top c) ≡ Ok (content_in c)
     → Loaded top place bytes again after → (again ≡ Ok tt) × (after ≡ c)
 loads_back top c place bytes (Ok u) after is gives done =
     let same : ◌≡◌ {A = Result Content Refusal} (Ok (content_in after)) (Ok (content_in c)) = sym done.1 ∙ ap (outcome top) is ∙ gives in
-    (refl, same_content after c (same_ok (content_in after) (content_in c) same))
+    (refl, same_content after c cc)
 loads_back top c place bytes (Err e) after is gives done =
     let due : load_due top bytes ≡ None = rw (is, gives) in
-    let z : ◌≡◌ {A = ℕ} 0 1 = clash e (sym due ∙ done.0) in
-    absurd (omega arith)
-  where
-    clash : (e : Refusal) → None ≡ Some e → ◌≡◌ {A = ℕ} 0 1
-    clash e h = cc
+    let never : None ≡ Some e = sym due ∙ done.0 in
+    absurd cc
 
 pub saved_is : (top : ℕ) (c : Captured) (before after : List ℕ) (answer : Result ℕ Refusal) → Sound top (content_in c) → Stores top (content_in c) before answer after → Saved top c before answer after
 saved_is top c before after (Ok n) sound done = (sym (sound_due top c (length before) sound) ∙ done.0, (done.1.length_is, done.1.written))
