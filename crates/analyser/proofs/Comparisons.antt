@@ -1,10 +1,10 @@
 -- Comparing: which refusal is due, and what the two readings say. Assumes nothing.
-use Rattle.std.proofs.Common.{◌≡◌, ℕ, Bool, true, false, eqb, ltb, List, length, take, drop, Some, None, Ok, Err, Option, Result, sym, refl, ap, ◌∙◌, arith}
+use Rattle.std.proofs.Common.{◌≡◌, ℕ, Bool, true, eqb, ltb, List, length, take, drop, Some, None, Ok, Err, Option, Result, sym, refl, ap, ◌∙◌, arith}
 use Rattle.std.specs.Result.{IsErrAnd}
 use Rattle.std.proofs.lemmas.Bool.{le-ltb, eqb-true}
 use Rattle.polar.specs.declared.refusal.Refusal.{Refusal}
 use Rattle.polar.specs.declared.refusal.Refusal.TheVariants.{WorkingRoom, Output, NotTaken, ItemCount}
-use Rattle.polar.specs.Refusals.{Outcome, refused_unless}
+use Rattle.polar.specs.Refusals.{Outcome}
 use Rattle.polar.specs.Words.{trues}
 use Rattle.polar.specs.Bytes.{bits, bytes}
 use Rattle.polar.specs.Codewords.{tree_of}
@@ -30,16 +30,7 @@ pub refused : {X : Type 0} (accepted : X → Type 0) (kept : Type 0) {why : Refu
 refused accepted kept due (Ok x) by is same = absurd by
 refused accepted kept due (Err e) by is same = (is ∙ ap Some (sym by), same)
 
--- a due that is found with nothing to follow is due whatever follows
-first_unless : (test : Bool) (e why : Refusal) (before later : Option Refusal) → refused_unless test e before ≡ Some why → (before ≡ Some why → later ≡ Some why) → refused_unless test e later ≡ Some why
-first_unless true e why before later is more = more is
-first_unless false e why before later is more = is
-
 module _ {K : Type 0} (reading : Reading K) (ms : List Bool) (soft_places bit_places : ℕ) where
-  pub pile_first : (why : Refusal) (later : Option Refusal) → pile_due reading ms soft_places bit_places None ≡ Some why → pile_due reading ms soft_places bit_places later ≡ Some why
-  pile_first why later is =
-      first_unless (reading.taking ms) NotTaken why _ _ is (λ inner. first_unless _ WorkingRoom why None later inner (λ none. absurd (some_due why (sym none))))
-
   -- a pile that is accepted leaves what is looked for next
   pub pile_passes : (later : Option Refusal) → pile_due reading ms soft_places bit_places None ≡ None → pile_due reading ms soft_places bit_places later ≡ later
   pile_passes later none =

@@ -119,7 +119,7 @@ module _ (top : ℕ) (ms : List Bool) (k : ℕ) (word : List Bool) where
         brought (Ok n) after done is imported =
             let same : levels ≡ take n writes.row = cc in
             (export_returns top k rows c writes.lent writes.row (Ok n) kept.same_scale kept.within done (Ok tt) after (subst (λ xs. Imported top c xs (Ok tt) after) same imported)).1
-        brought (Err e) after done is imported = let z : ◌≡◌ {A = ℕ} 0 1 = cc in absurd (omega arith)
+        brought (Err e) after done is imported = absurd cc
 
     saved : (budget : ℕ) (c : Captured) (bytes : List ℕ) → Kept budget c → Writes (Saved top c) (Ok bytes) → Wrote budget (save (Ok bytes))
     saved budget c bytes kept writes = (c, kept, λ place after done. brought writes.answer place after writes.done writes.is done)
@@ -129,7 +129,7 @@ module _ (top : ℕ) (ms : List Bool) (k : ℕ) (word : List Bool) where
             let same : bytes ≡ take n writes.row = cc in
             let front : take n writes.row ≡ saved_bytes top c = ap (take n) done.1.1 ∙ take_at (saved_bytes top c) (drop n writes.lent) n (sym done.1.0) in
             (loads_back top c place bytes (Ok tt) after (same ∙ front) (stores (content_in c) (sound budget c kept)) loaded).1
-        brought (Err e) place after done is loaded = let z : ◌≡◌ {A = ℕ} 0 1 = cc in absurd (omega arith)
+        brought (Err e) place after done is loaded = absurd cc
 
     step : (past : List Call) (before after : Captured) (call : Call) → State past before → Step top past before call after → State (call ∷ past) after
     step past before after (edit place e (Ok u)) state did =

@@ -1,15 +1,13 @@
 -- The rows that the call writes. Assumes nothing.
-use Rattle.std.proofs.Common.{◌≡◌, ℕ, ◌-◌, ◌≤◌, Bool, true, false, List, [], ◌∷◌, ◌++◌, length, take, drop, None, Ok, Err, Result, sym, refl, ap, ◌∙◌, ap₂, arith, take_at}
+use Rattle.std.proofs.Common.{◌≡◌, ℕ, ◌-◌, ◌≤◌, Bool, true, false, List, [], ◌∷◌, ◌++◌, length, take, drop, None, Ok, sym, refl, ap, ◌∙◌, ap₂, arith, take_at}
 use borrow.Rule.Slice.PartMut.{post_of, Post-is}
 use lib.ListN.{length-map, length-replicate}
-use Rattle.std.proofs.lemmas.Bool.{eq-eqb, le-ltb}
-use Rattle.polar.specs.declared.refusal.Refusal.{Refusal}
+use Rattle.std.proofs.lemmas.Bool.{le-ltb}
 use Rattle.polar.specs.Words.{trues}
 use Rattle.polar.specs.Bytes.{byte, all_bits, bits, bytes}
 use Rattle.polar.specs.Codewords.{codeword}
-use Rattle.polar.specs.Plans.{encode_due, Encoded}
+use Rattle.polar.specs.Plans.{Encoded}
 use Rattle.polar.proofs.Codes.{bits_bytes, front_bytes, length_codeword}
-use Rattle.polar.proofs.Dues.{some_due}
 use Rattle.captures.proofs.Storing.{front_is}
 use Rattle.analyser.specs.Assurance.{LimitIsTight}
 use Rattle.analyser.specs.Worst.{plan_weight, zero_word, leaf_word, places_of, worst_due, WorstWritten}
@@ -22,15 +20,11 @@ all_bits_bytes [] = refl
 all_bits_bytes (true ∷ w) = all_bits_bytes w
 all_bits_bytes (false ∷ w) = all_bits_bytes w
 
--- data that fit are encoded
-pub encoded_front : (ms : List Bool) (ds before after : List ℕ) (answer : Result ℕ Refusal) (n : ℕ) → 1 ≤ length ms → length ms ≤ length before
-    → length ds ≡ trues ms → all_bits ds ≡ true → n ≡ length ms → Encoded ms ds before answer after → bits (take (n - 0) after) ≡ codeword ms (bits ds)
-encoded_front ms ds before after (Ok m) n some room count are_bits is done =
+-- the front of a row that data are encoded into
+pub encoded_front : (ms : List Bool) (ds before after : List ℕ) (m n : ℕ) → 1 ≤ length ms → n ≡ length ms → Encoded ms ds before (Ok m) after → bits (take (n - 0) after) ≡ codeword ms (bits ds)
+encoded_front ms ds before after m n some is done =
     let w = codeword ms (bits ds) in
     ap bits (front_is n (bytes w) (drop m before) after done.1.1 (length-map w byte ∙ length_codeword ms (bits ds) some ∙ sym is)) ∙ bits_bytes w
-encoded_front ms ds before after (Err e) n some room count are_bits is done =
-    let due : encode_due ms ds (length before) ≡ None = rw (eq-eqb (length ds) (trues ms) count, are_bits, le-ltb (length before) (length ms) room) in
-    absurd (some_due e (sym done.0 ∙ due))
 
 -- no row is too short
 pub nothing_due : (ms : List Bool) (one other places : ℕ) → trues ms ≤ one → trues ms ≤ other → plan_weight ms ≤ places → worst_due ms one other places ≡ None

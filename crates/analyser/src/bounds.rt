@@ -10,5 +10,5 @@ use captures::capture::{Capture, TOP};
 pub fn bound_of(capture: &Capture) -> usize
     ensures { result ≡ bound top_count (captured capture.now).marks_row }
 {
-    TOP as usize * capture.plan().weight()
+    usize::from(TOP) * capture.plan().weight()
 }

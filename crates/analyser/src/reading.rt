@@ -16,7 +16,7 @@ use readers::reader::Reader;
 use soft::count::Count;
 
 // Reads a capture as values of a kind: writes the data, a byte for each, into the front of `out` and answers how many they are.
-// `soft` and `bits` are lent to work in.
+// `soft` and `bits` are lent to work in: two rows, since the refusal `WorkingRoom` and the contract speak of the length of each.
 pub fn read_capture<K: Spoken, R: Reader<K>>(
     reader: &R,
     capture: &Capture,
@@ -36,6 +36,7 @@ pub fn read_capture<K: Spoken, R: Reader<K>>(
     let marks = plan.marks();
     let (values, places) = soft.split_at_mut(marks.len());
     put_values(capture.counts(), values);
+    // A list is read by the same three lines; a function for them would take as many parameters and repeat the contract.
     let (word, work) = bits.split_at_mut(marks.len());
     let question = Question {
         marks,

@@ -81,7 +81,7 @@ fn write_codeword_places(plan: &Plan, data: &[u8], places: &mut [usize])
     requires all_data { length «data».now ≡ trues (marks_of plan.now) }
     requires all_bits { all_bits «data».now ≡ true }
     requires room { trues (codeword (marks_of plan.now) (bits «data».now)) ≤ length places.old }
-    ensures { places.new ≡ places_of (codeword (marks_of plan.now) (bits «data».now)) ++ drop (trues (codeword (marks_of plan.now) (bits «data».now))) places.old }
+    ensures { let word = codeword (marks_of plan.now) (bits «data».now) in places.new ≡ places_of word ++ drop (trues word) places.old }
 {
     let mut word = [0u8; MAX_LENGTH];
     encode(plan, data, &mut word).unwrap();

@@ -1,5 +1,5 @@
 -- What importing leaves of a capture, and that exporting and importing again leaves it equal. Assumes nothing.
-use Rattle.std.proofs.Common.{◌≡◌, ℕ, List, map, length, take, drop, Some, Ok, Err, Result, sym, refl, ap, ◌∙◌, subst, arith, take_at}
+use Rattle.std.proofs.Common.{◌≡◌, ℕ, List, map, length, take, drop, Some, Ok, Err, Result, sym, refl, ap, ◌∙◌, subst, take_at}
 use lib.ListN.{length-map}
 use lib.Ieee.{Float}
 use Rattle.polar.specs.declared.refusal.Refusal.{Refusal}
@@ -11,9 +11,6 @@ use Rattle.captures.specs.Calls.{Answer, Exported, Imported}
 use Rattle.captures.specs.Promises.{Returns}
 use Rattle.captures.proofs.Counts.{all_from_within}
 
-refused_never : (e : Refusal) → ◌≡◌ {A = Answer} (Err e) (Ok tt) → ⊥
-refused_never e h = let z : ◌≡◌ {A = ℕ} 0 1 = cc in omega arith
-
 module _ (top k : ℕ) (rows : RowsReturn top k) where
   -- what comes back of a capture's own levels
   back : (c : Captured) → c.scale_exponent ≡ k → AllWithin top c.count_row → (again : Answer) (after : Captured)
@@ -24,7 +21,7 @@ module _ (top k : ℕ) (rows : RowsReturn top k) where
       let same = rows c.count_row c.count_row after.count_row (Ok u) all refl row in
       (same.0, done.1.0 ∙ ap (with_counts c) same.1)
   back c is all (Err e) after done =
-      absurd (refused_never e (rows c.count_row c.count_row c.count_row (Err e) all refl (done.0, refl)).0)
+      let never : ◌≡◌ {A = Answer} (Err e) (Ok tt) = (rows c.count_row c.count_row c.count_row (Err e) all refl (done.0, refl)).0 in absurd cc
 
   pub export_returns : (c : Captured) (before row : List Float) (answer : Result ℕ Refusal) → c.scale_exponent ≡ k → WithinTop top c.count_row
       → Exported top c before answer row → Returns top c answer row

@@ -1,12 +1,11 @@
 -- What saving and loading promise, from the laws of the stored form. Assumes nothing.
-use Rattle.std.proofs.Common.{◌≡◌, ℕ, zero, suc, ◌-◌, true, false, ◌&&◌, ◌||◌, eqb, ltb, leb, List, [], ◌∷◌, ◌++◌, length, take, ℤ, nat_abs, Some, None, Ok, Err, Result, sym, refl, ap, ◌∙◌, arith, take_at}
+use Rattle.std.proofs.Common.{◌≡◌, ℕ, zero, suc, ◌-◌, true, ltb, leb, List, [], ◌∷◌, ◌++◌, length, take, ℤ, nat_abs, Some, None, Ok, Err, Result, sym, refl, ap, ◌∙◌, arith, take_at}
 use native.Mathlib.Nat.{sub-zero}
 use Rattle.std.proofs.lemmas.Bool.{and_parts, leb-true, le-leb, lt-ltb, le-ltb, eq-eqb, ne_eqb}
 use Rattle.polar.specs.declared.refusal.Refusal.{Refusal}
 use Rattle.polar.specs.Words.{trues}
-use Rattle.polar.specs.Refusals.{refused_if, refused_unless}
-use Rattle.polar.specs.declared.refusal.Refusal.TheVariants.{Length, Marks, Range, Output, ItemCount}
-use Rattle.polar.proofs.Dues.{if_passes, unless_passes}
+use Rattle.polar.specs.Refusals.{refused_if}
+use Rattle.polar.specs.declared.refusal.Refusal.TheVariants.{Output}
 use Rattle.storage.specs.Contents.{Content, all_small, Sound}
 use Rattle.storage.specs.Reading.{outcome}
 use Rattle.storage.specs.Calls.{store_due, Stores, load_due}
@@ -35,18 +34,14 @@ front_is n xs rest row is size = rw (is, sub-zero) (take_at xs rest n size)
 pub sound_due : (top : ℕ) (c : Captured) (room : ℕ) → Sound top (content_in c) → store_due top (content_in c) room ≡ refused_if (ltb room (length (saved_bytes top c))) Output None
 sound_due top c room sound =
     let n = length c.marks_row in
-    let some : eqb n 0 ≡ false = ne_eqb n 0 (λ (none : n ≡ 0). omega (arith, sound.some)) in
-    let short : ltb 4096 n ≡ false = le-ltb 4096 n sound.short in
-    let size : (eqb n 0 || ltb 4096 n) ≡ false = rw (some, short) in
-    let active : ltb 0 (trues c.marks_row) ≡ true = lt-ltb 0 (trues c.marks_row) sound.active in
-    let small : (all_small top c.count_row && leb c.scale_exponent 6) ≡ true = rw (sound.small, le-leb c.scale_exponent 6 sound.scaled) in
-    let paired : eqb (length c.count_row) n ≡ true = eq-eqb (length c.count_row) n sound.paired in
-    let room_due = refused_if (ltb room (length (saved_bytes top c))) Output None in
-    let range_due = refused_unless (all_small top c.count_row && leb c.scale_exponent 6) Range room_due in
-    let paired_due = refused_unless (eqb (length c.count_row) n) ItemCount range_due in
-    let active_due = refused_unless (ltb 0 (trues c.marks_row)) Marks paired_due in
-    if_passes (eqb n 0 || ltb 4096 n) Length active_due size ∙ unless_passes (ltb 0 (trues c.marks_row)) Marks paired_due active
-    ∙ unless_passes (eqb (length c.count_row) n) ItemCount range_due paired ∙ unless_passes (all_small top c.count_row && leb c.scale_exponent 6) Range room_due small
+    rw (
+      ne_eqb n 0 (λ (none : n ≡ 0). omega (arith, sound.some)),
+      le-ltb 4096 n sound.short,
+      lt-ltb 0 (trues c.marks_row) sound.active,
+      eq-eqb (length c.count_row) n sound.paired,
+      sound.small,
+      le-leb c.scale_exponent 6 sound.scaled,
+    )
 
 same_content : (a b : Captured) → content_in a ≡ content_in b → a ≡ b
 same_content a b e =
@@ -55,22 +50,16 @@ same_content a b e =
     let k : a.scale_exponent ≡ b.scale_exponent = ap (λ (c : Content). c.exponent) e in
     ap (λ m. capture_of m a.count_row a.scale_exponent) ms ∙ ap (λ v. capture_of b.marks_row v a.scale_exponent) vs ∙ ap (capture_of b.marks_row b.count_row) k
 
-same_ok : (a b : Content) → ◌≡◌ {A = Result Content Refusal} (Ok a) (Ok b) → a ≡ b
-same_ok a b e = cc
-
 -- loading the stored form of a capture gives that capture
 pub loads_back : (top : ℕ) (c place : Captured) (bytes : List ℕ) (again : Answer) (after : Captured) → bytes ≡ saved_bytes top c → outcome top (saved_bytes top c) ≡ Ok (content_in c)
     → Loaded top place bytes again after → (again ≡ Ok tt) × (after ≡ c)
 loads_back top c place bytes (Ok u) after is gives done =
     let same : ◌≡◌ {A = Result Content Refusal} (Ok (content_in after)) (Ok (content_in c)) = sym done.1 ∙ ap (outcome top) is ∙ gives in
-    (refl, same_content after c (same_ok (content_in after) (content_in c) same))
+    (refl, same_content after c cc)
 loads_back top c place bytes (Err e) after is gives done =
     let due : load_due top bytes ≡ None = rw (is, gives) in
-    let z : ◌≡◌ {A = ℕ} 0 1 = clash e (sym due ∙ done.0) in
-    absurd (omega arith)
-  where
-    clash : (e : Refusal) → None ≡ Some e → ◌≡◌ {A = ℕ} 0 1
-    clash e h = cc
+    let never : None ≡ Some e = sym due ∙ done.0 in
+    absurd cc
 
 pub saved_is : (top : ℕ) (c : Captured) (before after : List ℕ) (answer : Result ℕ Refusal) → Sound top (content_in c) → Stores top (content_in c) before answer after → Saved top c before answer after
 saved_is top c before after (Ok n) sound done = (sym (sound_due top c (length before) sound) ∙ done.0, (done.1.length_is, done.1.written))

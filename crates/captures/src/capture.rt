@@ -1,5 +1,6 @@
 // A capture: a plan, a count for each symbol, and the exponent of its scale.
 ghost use Rattle.std.specs.Prelude.{◌≡◌, ◌≤◌, vec_len, vec_capacity};
+ghost use Rattle.levels.specs.Level.{top_exponent};
 ghost use Rattle.captures.specs.Tops.{top_count, WithinTop};
 
 use polar::plan::Plan;
@@ -24,5 +25,5 @@ pub struct Capture {
     ghost room: { 4096 ≤ vec_capacity counts },
     ghost same: { vec_len counts ≡ vec_len plan.marks },
     ghost within: { WithinTop top_count counts.items },
-    ghost small: { exponent ≤ 6 },
+    ghost small: { exponent ≤ top_exponent },
 }

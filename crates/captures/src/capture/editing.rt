@@ -55,11 +55,5 @@ fn weaken(count: i16, by: u16) -> i16
     ensures { result ≡ weakened count by }
 {
     let by = by as i16;
-    if count >= by {
-        count - by
-    } else if count <= -by {
-        count + by
-    } else {
-        0
-    }
+    count - count.clamp(-by, by)
 }

@@ -3,6 +3,7 @@ ghost use Rattle.std.specs.Prelude.{◌≡◌, ◌<◌, ◌≤◌, true, false, 
 ghost use Rattle.polar.specs.Words.{trues};
 ghost use Rattle.polar.specs.Bytes.{bits};
 ghost use Rattle.polar.specs.Plans.{marks_of};
+ghost use Rattle.levels.specs.Level.{top_exponent};
 ghost use Rattle.captures.specs.Tops.{top_count, WithinTop};
 ghost use Rattle.captures.specs.Captures.{capture_of, full, made_of};
 ghost use Rattle.captures.specs.Calls.{Made};
@@ -29,9 +30,7 @@ impl Capture {
             exponent: 0,
         })
     }
-}
 
-impl Capture {
     // Replaces the capture by one of `data` on a copy of the plan: 127 for each codeword bit 0 and -127 for each bit 1.
     pub fn make(&mut self, plan: &Plan, exponent: u8, data: &[u8]) -> Result<(), Refusal>
         ensures { Made top_count (captured self.old) (marks_of plan.now) exponent «data».now result (captured self.new) }
@@ -53,7 +52,7 @@ impl Capture {
         requires plan { (1 ≤ length marks.now) × ((length marks.now ≤ 4096) × (0 < trues marks.now)) }
         requires same { length counts.now ≡ length marks.now }
         requires within { WithinTop top_count counts.now }
-        requires small { exponent ≤ 6 }
+        requires small { exponent ≤ top_exponent }
         ensures { captured self.new ≡ capture_of marks.now counts.now exponent }
     {
         self.counts.clear();

@@ -1,4 +1,4 @@
-use Rattle.std.proofs.Common.{◌≡◌, map, length, None, sym, ap, ◌∙◌, subst, arith, rules}
+use Rattle.std.proofs.Common.{◌≡◌, map, length, None, sym, ap, ◌∙◌, subst, arith}
 use Rattle.polar.specs.Plans.{TakenOut}
 use Rattle.readers.specs.Blocks.{pile_due}
 use Rattle.readers.proofs.Listing.{pile_facts, near_taken_out}
@@ -36,8 +36,8 @@ read-requires g c =
       bits_told = facts.2;
     }
 
-pub returns : goal.returns
-returns g c =
+pub returns-clause-near : goal.returns-clause-near
+returns-clause-near g c =
     let s = c.args.capture.now in
     let ms = (captured s).marks_row in
     let spoken = g.K.Spoken.spoken in
@@ -50,8 +50,4 @@ returns g c =
     let word : c.read.new.out ≡ reading.answer ms 0 values = c.read.ensures ∙ ap (λ vs. reading.answer c.marks-marks.result.now 0 vs) is ∙ ap (λ m. reading.answer m 0 values) same in
     let taken : TakenOut ms c.read.new.out c.args.out.now c.take_out.result c.take_out.new.word c.take_out.new.out =
     subst (λ m. TakenOut m c.read.new.out c.args.out.now c.take_out.result c.take_out.new.word c.take_out.new.out) c.plan-plan.ensures c.take_out.ensures in
-    record {
-      value = search rules;
-      free = search rules;
-      near = near_taken_out g.K.Soft.kind reading (g.met.R.Reader.rules c.args.reader.now) ms values c.read.new.out c.args.out.now c.take_out.result c.take_out.new.word c.take_out.new.out facts.0 (posed_capture g.K.Soft.kind spoken g.met.K.Spoken.fitting s) word taken;
-    }
+    near_taken_out g.K.Soft.kind reading (g.met.R.Reader.rules c.args.reader.now) ms values c.read.new.out c.args.out.now c.take_out.result c.take_out.new.word c.take_out.new.out facts.0 (posed_capture g.K.Soft.kind spoken g.met.K.Spoken.fitting s) word taken

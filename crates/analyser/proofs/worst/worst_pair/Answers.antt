@@ -1,7 +1,6 @@
 use Rattle.std.proofs.Common.{◌≡◌, ◌-◌, false, ◌++◌, length, take, drop, replicate, sym, ap, ◌∙◌, subst, arith, length-take-le}
 use native.Mathlib.Nat.{sub-zero}
 use borrow.Rule.Slice.PartMut.{post_of}
-use lib.ListN.{length-map}
 use lib.LanesLaws.{map-replicate}
 use Rattle.polar.specs.Words.{trues}
 use Rattle.polar.specs.Bytes.{byte, bits, bytes}
@@ -10,7 +9,7 @@ use Rattle.polar.specs.Plans.{marks_of}
 use Rattle.polar.proofs.Codes.{bits_bytes}
 use Rattle.captures.specs.Tops.{top_count}
 use Rattle.analyser.specs.Worst.{plan_weight, FirstLightest, zero_word, leaf_word, places_of, WorstWritten}
-use Rattle.analyser.proofs.Lightest.{length_leaf_word, first_weighs}
+use Rattle.analyser.proofs.Lightest.{first_weighs}
 use Rattle.analyser.proofs.Rows.{all_bits_bytes, nothing_due, row_is, written_tight}
 use Rattle.analyser.proofs.worst.worst_pair.Goals as goal
 use Rattle.analyser.proofs.worst.worst_pair.Goals.{After-first_lightest-leaf, After-fill, After-put_leaf_word}
@@ -32,19 +31,17 @@ word_is c = c.put_leaf_word.ensures ∙ ap (λ ms. bytes (leaf_word ms c.first_l
 codeword_is : (c : After-put_leaf_word) → codeword (marks_of c.args.plan.now) (bits c.put_leaf_word.new.word) ≡ codeword (marks_of c.args.plan.now) (leaf_word (marks_of c.args.plan.now) c.first_lightest-leaf.result)
 codeword_is c = ap (λ w. codeword (marks_of c.args.plan.now) w) (ap bits (word_is c) ∙ bits_bytes _)
 
-pub write_codeword_places-requires : goal.write_codeword_places-requires
-write_codeword_places-requires c =
-    let at = (goal.at.write_codeword_places-requires c).After-put_leaf_word in
+pub write_codeword_places-requires-clause-all_bits : goal.write_codeword_places-requires-clause-all_bits
+write_codeword_places-requires-clause-all_bits c = rw (word_is (goal.at.write_codeword_places-requires-clause-all_bits c).After-put_leaf_word) (all_bits_bytes (leaf_word (marks_of c.args.plan.now) c.first_lightest-leaf.result))
+
+pub write_codeword_places-requires-clause-room : goal.write_codeword_places-requires-clause-room
+write_codeword_places-requires-clause-room c =
+    let at = (goal.at.write_codeword_places-requires-clause-room c).After-put_leaf_word in
     let ms = marks_of c.args.plan.now in
     let leaf = c.first_lightest-leaf.result in
-    let w = leaf_word ms leaf in
     let many : trues (codeword ms (bits c.put_leaf_word.new.word)) ≡ c.weight-weight.result =
-    ap trues (codeword_is at) ∙ first_weighs ms leaf (light (goal.at.write_codeword_places-requires c).After-first_lightest-leaf) ∙ sym c.weight-weight.ensures.value in
-    record {
-      all_data = ap length (word_is at) ∙ length-map w byte ∙ length_leaf_word ms leaf;
-      all_bits = rw (word_is at) (all_bits_bytes w);
-      room = omega (arith, many, c.if-places-weight.false);
-    }
+    ap trues (codeword_is at) ∙ first_weighs ms leaf (light (goal.at.write_codeword_places-requires-clause-room c).After-first_lightest-leaf) ∙ sym c.weight-weight.ensures.value in
+    omega (arith, many, c.if-places-weight.false)
 
 pub returns : goal.returns
 returns c =
