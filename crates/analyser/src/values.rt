@@ -4,6 +4,7 @@ ghost use Rattle.soft.specs.Counts.{counted, top_count};
 ghost use Rattle.analyser.specs.Reading.{erasure_of, AllSpeak};
 ghost use Rattle.std.proofs.Common.{rules};
 
+use polar::rows::write_all;
 use soft::count::Count;
 use soft::erasure::Erasure;
 use soft::kind::{Listed, Soft};
@@ -52,7 +53,5 @@ pub(crate) fn put_values<K: Spoken>(counts: &[i16], values: &mut [K])
     requires { length values.old ≡ length counts.now }
     ensures { values.new ≡ map K.Spoken.spoken counts.now }
 {
-    for (i, v) in counts.iter().enumerate() {
-        values[i] = K::of_count(*v);
-    }
+    write_all(values, counts.iter().map(|count| K::of_count(*count)));
 }

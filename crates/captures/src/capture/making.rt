@@ -13,6 +13,7 @@ use crate::capture::{Capture, TOP};
 use polar::code::encode;
 use polar::plan::{MAX_LENGTH, Plan};
 use polar::refusal::Refusal;
+use polar::rows::write_all;
 use std::alloc::{AllocError, Global};
 use storage::MAX_EXPONENT;
 
@@ -67,9 +68,8 @@ fn put_full_counts(word: &[u8], counts: &mut [i16])
     requires { length counts.old ≡ length word.now }
     ensures { counts.new ≡ map (full top_count) (bits word.now) }
 {
-    for (i, b) in word.iter().enumerate() {
-        counts[i] = full_count(*b == 1);
-    }
+    let bits = word.iter().copied().map(|b| b == 1);
+    write_all(counts, bits.map(full_count));
 }
 
 // The count of a codeword bit.

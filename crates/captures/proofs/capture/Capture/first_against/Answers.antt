@@ -14,4 +14,4 @@ returns c =
     let found : c.position.result ≡ position (λ (p : ℤ × ℕ). against p.0 (bit p.1)) (zip counts c.args.word.now) =
     position_from_yields_List (λ (p : ℤ × ℕ). against p.0 (bit p.1)) c.position.new.self _ c.position.result c.position.ensures.ran
     (YieldsList-from_zip {v = λ y. y.now} {w = λ y. y.now} (YieldsList-from_slice counts (cc)) (YieldsList-from_slice c.args.word.now (cc))) (λ x b q k. search (rules, tests)) in
-    (c.in_ok-check_word.ensures.0, found ∙ first_is counts c.args.word.now)
+    (c.in_ok-check_word.ensures.due.0, found ∙ first_is counts c.args.word.now)
