@@ -77,6 +77,7 @@ fn pass_eight(bits: &mut [bool])
 }
 
 // The same for up to four leaves, sum by sum.
+#[tactic(auto, using(crate::proofs::InPlace::labelled_short, crate::proofs::SmallNodes::two_label, crate::proofs::SmallNodes::three_label, crate::proofs::SmallNodes::four_label))]
 fn pass_four(bits: &mut [bool])
     requires { length bits.old ≤ 4 }
     ensures { bits.new ≡ label (balanced (length bits.old)) bits.old }

@@ -1,6 +1,4 @@
-use Rattle.std.proofs.Common.{◌≡◌, ◌+◌, ◌<◌, true, false, length, get_or, take, sym, ap, ◌∙◌, append-nil, arith, length-take-le}
-use Rattle.std.proofs.lemmas.List.{take_all}
-use Rattle.polar.specs.Words.{trues}
+use Rattle.std.proofs.Common.{◌≡◌, ◌+◌, ◌<◌, true, false, length, get_or, take, sym, ◌∙◌, append-nil, arith, length-take-le}
 use Rattle.polar.specs.Bytes.{byte}
 use Rattle.polar.specs.Marks.{collect}
 use Rattle.polar.proofs.Active.{length_collect, collect_more, trues_take_more, trues_take_bound}
@@ -43,13 +41,3 @@ loop-i-preserved c =
           let more = collect_more marks labels i false c.requires.same_len within w.if-mark.false ∙ append-nil front in
           (omega (arith, w.next-is, c.loop-i.invariant.0), w.out-is ∙ c.loop-i.invariant.1 ∙ rw (w.next-is, more))
     ]
-
-pub returns : goal.returns
-returns c =
-    let marks = c.args.marks.now in
-    let labels = c.args.labels.now in
-    let i = c.loop-i.i in
-    let all_marks = take_all i marks c.loop-i-test.false in
-    let all_labels = take_all i labels (omega arith) in
-    let next : c.loop-i.next ≡ trues marks = c.loop-i.invariant.0 ∙ ap trues all_marks in
-    c.loop-i.invariant.1 ∙ rw (all_marks, all_labels, next)

@@ -1,5 +1,5 @@
-use Rattle.std.proofs.Common.{◌≡◌, ◌+◌, ◌<◌, false, length, get_or, take, drop, sym, ap, ◌∙◌, arith, length-drop, length-take-le, get_or-drop, take_all}
-use Rattle.polar.specs.Words.{xor, plus}
+use Rattle.std.proofs.Common.{◌≡◌, ◌+◌, ◌<◌, false, length, get_or, take, drop, sym, ap, ◌∙◌, arith, length-drop, length-take-le, get_or-drop}
+use Rattle.polar.specs.Words.{xor}
 use Rattle.polar.proofs.Merges.{merge_nil, merge_more, get_or_merge_past}
 use Rattle.polar.proofs.labels.add_right.Goals as goal
 
@@ -21,9 +21,3 @@ loop-i-preserved c =
     ∙ sym (get_or-drop c.args.mid bits i false) in
     let more = merge_more xor bits right i false (omega arith) long in
     rw (left_bit, right_bit, c.loop-i.invariant) (sym more)
-
-pub returns : goal.returns
-returns c =
-    let bits = c.args.bits.now in
-    let right = drop c.args.mid bits in
-    c.loop-i.invariant ∙ ap (plus bits) (take_all c.loop-i.i right (omega (arith, length-drop c.args.mid bits)))

@@ -11,12 +11,6 @@ use Rattle.polar.proofs.PlanFacts.{sized}
 use Rattle.polar.proofs.Minimum.{some_weighs, least_weight, minimum_distance, leaf_weights}
 use Rattle.polar.proofs.plan.Plan.weight.Goals as goal
 
-pub least_weight-requires : goal.least_weight-requires
-least_weight-requires c =
-    let size = sized c.args.self.now in
-    let same = c.as_slice.ensures.value in
-    record { some = rw same size.0; short = rw same size.1 }
-
 -- some leaf is active
 weighed : (plan : Plan) → some_weight (weight (tree_of (marks_of plan)) (marks_of plan)) ≡ Some (weight (tree_of (marks_of plan)) (marks_of plan))
 weighed plan =
