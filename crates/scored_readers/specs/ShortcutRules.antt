@@ -34,11 +34,6 @@ pattern_cases ms P frozen full check single other =
     cond_both (first_frozen ms) _ _ P check (λ _.
     cond_both (trues ms == 1) _ _ P (λ e. single (eqb-true _ _ e)) (λ _. other))))
 
-pub pattern_check : (ms : List Bool) → (trues ms ≢ 0) → (trues ms ≢ length ms) → slice_index_or ms 0 false ≡ false → 1 < length ms → trues ms + 1 ≡ length ms
-    → Check ≡ pattern_of ms
-pattern_check ms some part frozen long most =
-    rw (ne_eqb (trues ms) 0 some, ne_eqb (trues ms) (length ms) part, frozen, lt-ltb 1 (length ms) long, eq-eqb (trues ms + 1) (length ms) most)
-
 leaf_known : (mark taken : Bool) → (known (pattern_of (mark ∷ [])) || taken) ≡ true
 leaf_known true taken = refl
 leaf_known false taken = refl

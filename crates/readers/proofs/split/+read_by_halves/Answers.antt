@@ -44,21 +44,6 @@ read_by_halves-requires g t c κs within =
     let ready = left_ready g.K.Soft.kind g.met.K.Soft.rules _ (g.met.R.Reader.rules c.args.below.now) _ _ _ _ c.requires two _ half _ c.split_at_mut-work.ensures.back_len _ _ c.split_at.ensures.front room in
     (omega (arith, c.decreases), (within.0, (within.1, ready)))
 
-pub join_halves-requires : goal.join_halves-requires
-join_halves-requires g t c =
-    let posed = c.args.question.now.posed in
-    let two = split_node g c.args.below.now posed.some c.takes.ensures c.if-takes.false in
-    let half = c.children-half.ensures.left two in
-    let other = c.children-half.ensures.right in
-    let wide = c.read_by_halves.auto.out ∙ length_front c.children-half.result.0 c.args.out.now (omega (arith, c.requires.out_room)) in
-    let work : c.children-half.result.1 ≤ length c.compare_halves.new.out = omega (arith, c.compare_halves.auto.out, c.split_at_mut-work.ensures.front_len) in
-    record {
-      two = two;
-      halved = (omega (arith, posed.same), omega (arith, posed.same));
-      left = ap length (take_front _ _ _ wide) ∙ wide;
-      room = omega (arith, length_front c.children-half.result.1 c.compare_halves.new.out work, posed.same);
-    }
-
 pub overflow_add-right : goal.overflow_add-right
 overflow_add-right g t c =
     let posed = c.args.question.now.posed in
