@@ -1,8 +1,8 @@
 -- The shortcut keeps the rules of a reader, if the reader below does. Assumes nothing.
-use Rattle.std.specs.Prelude.{◌≡◌, ℕ, suc, ◌+◌, ◌-◌, ◌^◌, ◌<◌, ◌≤◌, Bool, true, false, cond, ◌||◌, List, [], ◌∷◌, map, length, ℤ, ◌≤ℤ◌, ◌==◌, ◌≢◌, int_lt, nat_lt, slice_index_or, refl}
+use Rattle.std.specs.Prelude.{◌≡◌, ℕ, suc, ◌+◌, ◌-◌, ◌^◌, ◌≤◌, Bool, true, false, cond, ◌||◌, List, [], ◌∷◌, map, length, ℤ, ◌≤ℤ◌, ◌==◌, int_lt, nat_lt, slice_index_or, refl}
 use Rattle.std.proofs.Common.{sym, ap, subst, ◌∙◌, arith}
 use Rattle.std.proofs.lemmas.List.{length-map}
-use Rattle.std.proofs.lemmas.Bool.{eqb-true, and_parts, cond_both, false≢true, ne_eqb, eq-eqb, lt-ltb, le-leb}
+use Rattle.std.proofs.lemmas.Bool.{eqb-true, and_parts, cond_both, false≢true, le-leb}
 use Rattle.soft.specs.Kind.{Kind, Score, AllFair}
 use Rattle.polar.specs.Shape.{leaves}
 use Rattle.polar.specs.Words.{trues, parity}

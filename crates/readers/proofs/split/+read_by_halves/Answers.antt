@@ -1,5 +1,5 @@
 use Rattle.std.proofs.Common.{◌≡◌, ◌+◌, ◌/◌, ◌≤◌, Bool, false, List, length, sym, ap, ◌∙◌, arith}
-use Rattle.readers.specs.Rows.{length_front, joined_rows}
+use Rattle.readers.specs.Rows.{joined_rows}
 use Rattle.readers.specs.Node.{few_turns}
 use Rattle.readers.specs.SplitSteps.{own_least, posed_left, posed_right, same_answer, split_taken, split_untaken, two_leaves, left_ready, right_ready}
 use Rattle.readers.proofs.split.+read_by_halves.Given as given
@@ -41,20 +41,6 @@ read_by_halves-requires g t c κs within =
     let size = c.split_at.ensures.front_len in
     let ready = left_ready g.K.Soft.kind g.met.K.Soft.rules _ (g.met.R.Reader.rules c.args.below.now) _ _ _ _ c.requires two _ half _ c.split_at_mut-work.ensures.back_len _ _ c.split_at.ensures.front c.split_at_mut-left_out.ensures.front_len in
     (omega (arith, c.decreases), (within.0, (within.1, ready)))
-
-pub join_halves-requires : goal.join_halves-requires
-join_halves-requires g t c =
-    let posed = c.args.question.now.posed in
-    let two = split_node g c.args.below.now posed.some c.takes.ensures c.if-takes.false in
-    let half = c.children-half.ensures.left two in
-    let other = c.children-half.ensures.right in
-    let work : c.children-half.result.1 ≤ length c.compare_halves.new.out = omega (arith, c.compare_halves.auto.out, c.split_at_mut-work.ensures.front_len) in
-    record {
-      two = two;
-      halved = (omega (arith, posed.same), omega (arith, posed.same));
-      left = c.read_by_halves.auto.out ∙ c.split_at_mut-left_out.ensures.front_len;
-      room = omega (arith, length_front c.children-half.result.1 c.compare_halves.new.out work, posed.same);
-    }
 
 pub overflow_add-right : goal.overflow_add-right
 overflow_add-right g t c =

@@ -28,4 +28,3 @@ loop-i-preserved g c =
       omega (arith, ints, c.loop-i.invariant.0),
       omega (arith, ints, limit_more c.loop-i.i (limit g.K.Soft.kind c.args.question.now.turns), c.score-sum.ensures.fair.within, c.loop-i.invariant.1),
     )
-

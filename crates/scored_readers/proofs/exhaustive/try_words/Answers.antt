@@ -46,4 +46,3 @@ loop-number-preserved g c =
 
 pub shape_of-rows : goal.shape_of-rows
 shape_of-rows g c = length_rows c.args.question.now.marks.now c.loop-number.rows c.loop-number.number 1 c.loop-number.invariant.0 ∙ sym c.requires.room.0
-
