@@ -2,14 +2,12 @@
 use Rattle.std.specs.Prelude.{◌≡◌, ℕ, zero, suc, ◌+◌, ◌-◌, ◌<◌, ◌≤◌, Bool, false, List, [], ◌∷◌, ◌++◌, length, get_or, take, drop, set, slice_index_or, slice_set, refl}
 use Rattle.std.proofs.Common.{sym, ap, subst, ◌∙◌, arith, length-take}
 use Rattle.std.proofs.Math.Nat.{sub-zero}
-use borrow.Rule.Slice.PartMut.{put_mid, post_of}
 use Rattle.std.specs.List.{AllByRecursion}
-use Rattle.std.proofs.lemmas.List.{length-append, length-drop, take_rest, length-take-le, take_at, drop_at, take_more, take_more_set, get_or_read}
+use Rattle.std.proofs.lemmas.List.{length-take-le, take_at, drop_at, take_more, take_more_set, get_or_read}
 use Rattle.std.proofs.ByRecursion.{All-get_or}
 use Rattle.polar.specs.Words.{xor, merge, plus}
 use Rattle.polar.specs.Labels.{join}
 use Rattle.polar.proofs.Merges.{get_or_merge_past, merge_more, merge_past}
-use Rattle.polar.proofs.InPlace.{both_done}
 use Rattle.readers.specs.SplitReading.{joins}
 
 pub all_read : {A : Type 0} (P : A → Type 0) (xs : List A) (i : ℕ) (x : A) → i < length xs → x ≡ slice_index_or xs i x → AllByRecursion P xs → P x
@@ -22,17 +20,9 @@ length_front n xs h = rw sub-zero (length-take-le n xs h)
 pub take_front : {A : Type 0} (n : ℕ) (xs ys : List A) → length xs ≡ n → take (n - 0) (xs ++ ys) ≡ xs
 take_front n xs ys long = rw sub-zero (take_at xs ys n long)
 
--- what is left of a slice `s[n..]` once x is written to `s[0..n]`
-pub written_tail : {A : Type 0} (n : ℕ) (x s : List A) → length x ≡ n → n ≤ length s
-    → length (take (length (x ++ post_of 0 (n - 0) s) - n) (drop n (x ++ post_of 0 (n - 0) s))) + n ≡ length s
-written_tail n x s long h = rw (take_rest, sub-zero) (simp (length-drop, length-append) (omega arith))
-
--- two children's answers, written to the two parts of a slice, and the right one added to the left one
-pub joined_rows : (n : ℕ) (x y s b : List Bool) → length x ≡ n → length y ≤ n → n ≤ length s
-    → b ≡ plus (put_mid n (length (x ++ post_of 0 (n - 0) s) - n) (x ++ post_of 0 (n - 0) s) y) (drop n (put_mid n (length (x ++ post_of 0 (n - 0) s) - n) (x ++ post_of 0 (n - 0) s) y))
-    → b ≡ join x y
-joined_rows n x y s b long short room is =
-    is ∙ rw (both_done s x y n room long, drop_at x y n long) (merge_past xor x y y (omega arith))
+-- two children's answers, the right one added to the left one
+pub joined_rows : (n : ℕ) (x y b : List Bool) → length x ≡ n → length y ≤ n → b ≡ plus (x ++ y) (drop n (x ++ y)) → b ≡ join x y
+joined_rows n x y b long short is = is ∙ rw (drop_at x y n long) (merge_past xor x y y (omega arith))
 
 module _ {A : Type 0} (f : A → A → A) where
   -- a value that has not met its partner yet

@@ -90,15 +90,16 @@ fn read_by_halves<K: Soft, R: Reader<K>>(
         turns: question.turns,
         values: work,
     };
-    read_by_halves(below, &left, rest, bits, &mut out[0..half]);
+    let (left_out, right_out) = out.split_at_mut(half);
+    read_by_halves(below, &left, rest, bits, left_out);
     let right_work = &mut work[0..right_len];
-    join_halves(question, half, &out[0..half], right_work);
+    join_halves(question, half, left_out, right_work);
     let right = Question {
         marks: right_marks,
         turns: question.turns + 1,
         values: right_work,
     };
-    read_by_halves(below, &right, rest, bits, &mut out[half..]);
+    read_by_halves(below, &right, rest, bits, right_out);
     add_right(out, half);
 }
 

@@ -92,8 +92,9 @@ fn put_first_words(marks: &[bool], rows: &mut [bool])
     requires { (1 ≤ length marks.now) × (length rows.old ≡ 2 * length marks.now) }
     ensures { rows.new ≡ data_word marks.now 0 ++ data_word marks.now 1 }
 {
-    rows[0..marks.len()].fill(false);
-    put_word(marks, 1, &mut rows[marks.len()..]);
+    let (front, behind) = rows.split_at_mut(marks.len());
+    front.fill(false);
+    put_word(marks, 1, behind);
 }
 
 // Replaces the label in front by the next one: an odd number's differs from the last one by the label of number 1, which stands behind.
@@ -106,7 +107,8 @@ fn put_next_word(marks: &[bool], number: u32, rows: &mut [bool])
     if number % 2 == 0 {
         add_right(rows, marks.len());
     } else {
-        put_word(marks, number + 1, &mut rows[0..marks.len()]);
+        let (front, _) = rows.split_at_mut(marks.len());
+        put_word(marks, number + 1, front);
     }
 }
 

@@ -1,4 +1,4 @@
-use Rattle.std.proofs.Common.{length, sym, ap, ◌∙◌, arith, rules}
+use Rattle.std.proofs.Common.{length, sym, ap, ◌∙◌}
 use Rattle.polar.specs.Plans.{marks_of}
 use Rattle.readers.proofs.Listing.{pile_facts, posed_list, near_taken_out}
 use Rattle.readers.proofs.lists.read_list.Goals as goal
@@ -8,32 +8,12 @@ invariant_of-question g c =
     let same = c.marks-marks.ensures in
     record { posed = rw same (posed_list g.K.Soft.kind c.args.plan.now c.args.values.now _ same c.if-values-marks.false (sym c.in_default.ensures)) }
 
-pub read-requires : goal.read-requires
-read-requires g c =
-    let ms = marks_of c.args.plan.now in
-    let same = c.marks-marks.ensures in
-    let facts = pile_facts g.K.Soft.kind (g.R.Reader.reading c.args.reader.now) ms (length c.args.soft.now) (length c.args.bits.now) c.in_ok-check_pile.ensures.0 in
-    let cut = c.split_at_mut-word.ensures in
-    let long = ap length same in
-    rw same record {
-      taken = facts.0;
-      out_room = cut.front_len ∙ long;
-      soft_room = omega (arith, facts.3);
-      bit_room = omega (arith, facts.4, cut.back_len);
-      soft_told = facts.1;
-      bits_told = facts.2;
-    }
-
-pub returns : goal.returns
-returns g c =
+pub returns-clause-near : goal.returns-clause-near
+returns-clause-near g c =
     let kind = g.K.Soft.kind in
     let reading = g.R.Reader.reading c.args.reader.now in
     let ms = marks_of c.args.plan.now in
     let same = c.marks-marks.ensures in
-    let facts = pile_facts kind reading ms (length c.args.soft.now) (length c.args.bits.now) c.in_ok-check_pile.ensures.0 in
+    let taken = (pile_facts kind reading ms (length c.args.soft.now) (length c.args.bits.now) c.in_ok-check_pile.ensures.0).0 in
     let posed = posed_list kind c.args.plan.now c.args.values.now _ same c.if-values-marks.false (sym c.in_default.ensures) in
-    record {
-      value = search rules;
-      free = search rules;
-      near = near_taken_out kind reading (g.met.R.Reader.rules c.args.reader.now) ms c.args.values.now c.read.new.out c.args.out.now c.take_out.result c.take_out.new.word c.take_out.new.out facts.0 posed (c.read.ensures ∙ ap (λ m. reading.answer m 0 c.args.values.now) same) c.take_out.ensures;
-    }
+    near_taken_out kind reading (g.met.R.Reader.rules c.args.reader.now) ms c.args.values.now c.read.new.out c.args.out.now c.take_out.result c.take_out.new.word c.take_out.new.out taken posed (c.read.ensures ∙ ap (λ m. reading.answer m 0 c.args.values.now) same) c.take_out.ensures

@@ -1,6 +1,5 @@
 use Rattle.std.proofs.Common.{◌≡◌, ◌+◌, ◌/◌, ◌≤◌, Bool, false, List, length, sym, ap, ◌∙◌, arith}
-use Rattle.readers.specs.SplitReading.{right_values}
-use Rattle.readers.specs.Rows.{length_front, take_front, written_tail, joined_rows}
+use Rattle.readers.specs.Rows.{joined_rows}
 use Rattle.readers.specs.Node.{few_turns}
 use Rattle.readers.specs.SplitSteps.{own_least, posed_left, posed_right, same_answer, split_taken, split_untaken, two_leaves, left_ready, right_ready}
 use Rattle.readers.proofs.split.+read_by_halves.Given as given
@@ -40,24 +39,8 @@ read_by_halves-requires g t c κs within =
     let two = split_node g c.args.below.now c.args.question.now.posed.some c.takes.ensures c.if-takes.false in
     let half = c.children-half.ensures.left two in
     let size = c.split_at.ensures.front_len in
-    let room = length_front c.children-half.result.0 c.args.out.now (omega (arith, c.requires.out_room)) in
-    let ready = left_ready g.K.Soft.kind g.met.K.Soft.rules _ (g.met.R.Reader.rules c.args.below.now) _ _ _ _ c.requires two _ half _ c.split_at_mut-work.ensures.back_len _ _ c.split_at.ensures.front room in
+    let ready = left_ready g.K.Soft.kind g.met.K.Soft.rules _ (g.met.R.Reader.rules c.args.below.now) _ _ _ _ c.requires two _ half _ c.split_at_mut-work.ensures.back_len _ _ c.split_at.ensures.front c.split_at_mut-left_out.ensures.front_len in
     (omega (arith, c.decreases), (within.0, (within.1, ready)))
-
-pub join_halves-requires : goal.join_halves-requires
-join_halves-requires g t c =
-    let posed = c.args.question.now.posed in
-    let two = split_node g c.args.below.now posed.some c.takes.ensures c.if-takes.false in
-    let half = c.children-half.ensures.left two in
-    let other = c.children-half.ensures.right in
-    let wide = c.read_by_halves.auto.out ∙ length_front c.children-half.result.0 c.args.out.now (omega (arith, c.requires.out_room)) in
-    let work : c.children-half.result.1 ≤ length c.compare_halves.new.out = omega (arith, c.compare_halves.auto.out, c.split_at_mut-work.ensures.front_len) in
-    record {
-      two = two;
-      halved = (omega (arith, posed.same), omega (arith, posed.same));
-      left = ap length (take_front _ _ _ wide) ∙ wide;
-      room = omega (arith, length_front c.children-half.result.1 c.compare_halves.new.out work, posed.same);
-    }
 
 pub overflow_add-right : goal.overflow_add-right
 overflow_add-right g t c =
@@ -69,9 +52,8 @@ pub invariant_of-right : goal.invariant_of-right
 invariant_of-right g t c =
     let posed = c.args.question.now.posed in
     let two = split_node g c.args.below.now posed.some c.takes.ensures c.if-takes.false in
-    let wide = c.read_by_halves.auto.out ∙ length_front c.children-half.result.0 c.args.out.now (omega (arith, c.requires.out_room)) in
-    let left = ap length (take_front _ c.read_by_halves.new.out _ wide) ∙ wide in
-    let right = posed_right g.K.Soft.kind g.met.K.Soft.rules _ _ _ posed two _ (c.children-half.ensures.left two) _ left in
+    let wide = c.read_by_halves.auto.out ∙ c.split_at_mut-left_out.ensures.front_len in
+    let right = posed_right g.K.Soft.kind g.met.K.Soft.rules _ _ _ posed two _ (c.children-half.ensures.left two) _ wide in
     record { posed = rw (c.split_at.ensures.back, c.join_halves.ensures) right }
 
 pub read_by_halves-requires-2 : goal.read_by_halves-requires-2
@@ -79,9 +61,8 @@ read_by_halves-requires-2 g t c κs within =
     let two = split_node g c.args.below.now c.args.question.now.posed.some c.takes.ensures c.if-takes.false in
     let half = c.children-half.ensures.left two in
     let size = c.split_at.ensures.back_len in
-    let wide = c.read_by_halves.auto.out ∙ length_front c.children-half.result.0 c.args.out.now (omega (arith, c.requires.out_room)) in
     let cut = ap (λ n. n + c.children-half.result.0) c.read_by_halves.auto.soft ∙ c.split_at_mut-work.ensures.back_len in
-    let tail = written_tail _ c.read_by_halves.new.out c.args.out.now wide (omega (arith, c.requires.out_room)) ∙ c.requires.out_room in
+    let tail = c.split_at_mut-left_out.ensures.back_len ∙ c.requires.out_room in
     let ready = right_ready g.K.Soft.kind g.met.K.Soft.rules _ (g.met.R.Reader.rules c.args.below.now) _ _ _ _ c.requires two _ half _ cut _ _ _ c.split_at.ensures.back c.read_by_halves.auto.bits tail in
     (omega (arith, c.decreases), (within.0, (within.1, ready)))
 
@@ -93,13 +74,11 @@ returns g t c =
     let two = split_node g c.args.below.now c.args.question.now.posed.some c.takes.ensures c.if-takes.false in
     let half = c.children-half.ensures.left two in
     let n = c.children-half.result.0 in
-    let fits : n ≤ length c.args.out.now = omega (arith, c.requires.out_room) in
     let left = c.read_by_halves.new.out in
     let right = c.read_by_halves-2.new.out in
-    let wide = c.read_by_halves.auto.out ∙ length_front n c.args.out.now fits in
+    let wide = c.read_by_halves.auto.out ∙ c.split_at_mut-left_out.ensures.front_len in
     let size : length c.split_at.result.1.now ≡ length marks / 2 = omega (arith, c.split_at.ensures.back_len) in
-    let under = ap (right_values kind n c.args.question.now.values.now) (take_front n left _ wide) in
     let isl = c.read_by_halves.ensures ∙ same_answer kind below _ _ _ _ _ n c.split_at.ensures.front c.compare_halves.ensures c.split_at.ensures.front_len in
-    let isr = c.read_by_halves-2.ensures ∙ same_answer kind below _ _ _ _ _ _ c.split_at.ensures.back (c.join_halves.ensures ∙ under) size in
-    let short : length right ≤ n = omega (arith, c.read_by_halves-2.auto.out, written_tail n left c.args.out.now wide fits, c.requires.out_room) in
-    joined_rows n left right c.args.out.now _ wide short fits c.add_right.ensures ∙ split_untaken kind below _ _ _ n left right (sym c.takes.ensures ∙ c.if-takes.false) two half isl isr
+    let isr = c.read_by_halves-2.ensures ∙ same_answer kind below _ _ _ _ _ _ c.split_at.ensures.back c.join_halves.ensures size in
+    let short : length right ≤ n = omega (arith, c.read_by_halves-2.auto.out, c.split_at_mut-left_out.ensures.back_len, c.requires.out_room) in
+    joined_rows n left right _ wide short c.add_right.ensures ∙ split_untaken kind below _ _ _ n left right (sym c.takes.ensures ∙ c.if-takes.false) two half isl isr

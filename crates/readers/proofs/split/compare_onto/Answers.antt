@@ -1,5 +1,4 @@
-use Rattle.std.proofs.Common.{◌<◌, T, length, set, sym, ap, ◌∙◌, arith, take_all}
-use Rattle.polar.specs.Words.{merge}
+use Rattle.std.proofs.Common.{◌<◌, T, length, set, sym, ap, ◌∙◌, arith}
 use Rattle.polar.proofs.Merges.{merge_nil}
 use Rattle.readers.specs.Rows.{all_read, merge_step, merge_read}
 use Rattle.readers.proofs.split.compare_onto.Goals as goal
@@ -29,6 +28,3 @@ loop-i-preserved g c =
     let value = merge_read compared c.args.values.now c.args.partners.now _ i _ c.loop-i.invariant c.index-values-i.is in
     let step = merge_step compared c.args.values.now c.args.partners.now i _ _ within c.loop-i-test.true value c.index-partners-i.is in
     ap (λ l. set l i c.compare.result) c.loop-i.invariant ∙ ap (set _ i) c.compare.ensures ∙ step
-
-pub returns : goal.returns
-returns g c = c.loop-i.invariant ∙ ap (merge g.K.Soft.kind.compared c.args.values.now) (take_all _ _ c.loop-i-test.false)

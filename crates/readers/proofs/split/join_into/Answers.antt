@@ -1,20 +1,8 @@
-use Rattle.std.proofs.Common.{◌≡◌, ◌<◌, ◌≤◌, T, length, sym, ◌∙◌, arith}
+use Rattle.std.proofs.Common.{◌≡◌, ◌<◌, ◌≤◌, length, sym, ◌∙◌, arith}
 use Rattle.std.proofs.lemmas.List.{take_all}
 use Rattle.readers.specs.SplitReading.{joins}
-use Rattle.readers.specs.Rows.{all_read, joins_more, length_joins}
+use Rattle.readers.specs.Rows.{joins_more, length_joins}
 use Rattle.readers.proofs.split.join_into.Goals as goal
-
-pub join-requires : goal.join-requires
-join-requires g c =
-    let i = c.loop-i.i in
-    let within : i < length c.args.left.now = omega (arith, c.requires.paired.0) in
-    let fits = λ (v : g.row.K.Denot). T (g.K.Soft.kind.fitting v c.args.turns) in (
-      c.requires.few,
-      (
-        all_read fits c.args.left.now i _ within c.index-left-i.is c.requires.fits.0,
-        all_read fits c.args.right.now i _ c.loop-i-test.true c.index-right-i.is c.requires.fits.1,
-      ),
-    )
 
 pub loop-i-preserved : goal.loop-i-preserved
 loop-i-preserved g c =

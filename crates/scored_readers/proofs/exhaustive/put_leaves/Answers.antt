@@ -1,18 +1,11 @@
-use Rattle.std.proofs.Common.{◌≡◌, ℕ, suc, ◌+◌, ◌-◌, ◌/◌, ◌%◌, ◌^◌, ◌<◌, ◌≤◌, Bool, true, false, eqb, List, ◌∷◌, length, get_or, drop, set, sym, ap, ◌∙◌, pow-suc, div-one, arith}
+use Rattle.std.proofs.Common.{◌≡◌, ℕ, suc, ◌+◌, ◌-◌, ◌/◌, ◌%◌, ◌^◌, ◌<◌, ◌≤◌, Bool, true, false, eqb, List, ◌∷◌, length, get_or, drop, set, sym, ap, ◌∙◌, pow-suc, arith}
 use native.Mathlib.Nat.{div-div-eq-div-mul}
-use Rattle.std.proofs.lemmas.List.{drop_all, drop_more, drop-set}
+use Rattle.std.proofs.lemmas.List.{drop_more, drop-set}
 use Rattle.polar.specs.Words.{trues}
 use Rattle.polar.specs.Marks.{spread}
 use Rattle.scored_readers.specs.ExhaustiveReading.{digits}
 use Rattle.scored_readers.proofs.exhaustive.put_leaves.Goals as goal
 use Rattle.scored_readers.proofs.exhaustive.put_leaves.Goals.{then-marks-i, else-marks-i}
-
-pub loop-i-init : goal.loop-i-init
-loop-i-init c =
-    let marks = c.args.marks.now in
-    let none = drop_all (length marks) marks (omega arith) in
-    let past = drop_all (length marks) c.args.labels.now (omega (arith, c.requires)) in
-    (rw none (sym (div-one c.args.number)), rw (none, past))
 
 -- one leaf more, before those from i on
 module _ (marks labels : List Bool) (n i rest : ℕ) (some : 0 < i) (within : i ≤ length marks) (same : length labels ≡ length marks)

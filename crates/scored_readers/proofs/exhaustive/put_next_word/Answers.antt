@@ -1,13 +1,12 @@
-use Rattle.std.proofs.Common.{◌+◌, ◌≤◌, ◌++◌, length, drop, sym, ap, ◌∙◌, arith, drop_at}
+use Rattle.std.proofs.Common.{◌+◌, ◌++◌, length, drop, sym, ap, ◌∙◌, arith, drop_at}
 use Rattle.polar.specs.Words.{xor, plus}
 use Rattle.polar.proofs.Merges.{merge_past}
-use Rattle.polar.proofs.InPlace.{left_done}
 use Rattle.scored_readers.specs.ExhaustiveReading.{data_word}
 use Rattle.scored_readers.specs.Numbers.{length_data_word, length_rows, odd_word}
 use Rattle.scored_readers.proofs.exhaustive.put_next_word.Goals as goal
 
-pub slice_bounds-put_word-end : goal.slice_bounds-put_word-end
-slice_bounds-put_word-end c = omega (arith, length_rows c.args.marks.now c.args.rows.now c.args.number 1 c.requires.last)
+pub split_at_mut-front-requires : goal.split_at_mut-front-requires
+split_at_mut-front-requires c = omega (arith, length_rows c.args.marks.now c.args.rows.now c.args.number 1 c.requires.last)
 
 pub returns-then-number-eq0 : goal.returns-then-number-eq0
 returns-then-number-eq0 c =
@@ -23,9 +22,6 @@ pub returns-else-number-eq0 : goal.returns-else-number-eq0
 returns-else-number-eq0 c =
     let marks = c.args.marks.now in
     let n = length marks in
-    let rows = c.args.rows.now in
-    let r = data_word marks 1 in
-    let long = ap length c.put_word.ensures ∙ length_data_word marks (c.args.number + 1) in
-    let within : n ≤ length rows = omega (arith, length_rows marks rows c.args.number 1 c.requires.last) in
-    left_done rows c.put_word.new.word r n within long ∙ ap (λ z. z ++ drop n rows) c.put_word.ensures
-    ∙ ap (λ z. data_word marks (c.args.number + 1) ++ z) (ap (drop n) c.requires.last ∙ drop_at (data_word marks c.args.number) r n (length_data_word marks c.args.number))
+    let w = data_word marks (c.args.number + 1) in
+    let behind = c.split_at_mut-front.ensures.back ∙ ap (drop n) c.requires.last ∙ drop_at (data_word marks c.args.number) (data_word marks 1) n (length_data_word marks c.args.number) in
+    ap (λ z. z ++ c.split_at_mut-front.result.1.now) c.put_word.ensures ∙ ap (λ z. w ++ z) behind

@@ -1,6 +1,5 @@
 use Rattle.std.proofs.Common.{◌≡◌, ℕ, ◌+◌, ◌*◌, T, length, ap, ◌∙◌, add-mul, one-mul, arith}
 use borrow.Author.Differences.{ints}
-use Rattle.std.proofs.lemmas.List.{drop_all}
 use Rattle.soft.specs.Kind.{limit}
 use Rattle.readers.specs.Rows.{all_read}
 use Rattle.readers.specs.Node.{turns_most}
@@ -29,8 +28,3 @@ loop-i-preserved g c =
       omega (arith, ints, c.loop-i.invariant.0),
       omega (arith, ints, limit_more c.loop-i.i (limit g.K.Soft.kind c.args.question.now.turns), c.score-sum.ensures.fair.within, c.loop-i.invariant.1),
     )
-
-pub returns : goal.returns
-returns g c =
-    let done = drop_all c.loop-i.i c.args.question.now.values.now c.loop-i-test.false in
-    omega (arith, ints, rw done at c.loop-i.invariant.0)

@@ -1,8 +1,8 @@
-use Rattle.std.proofs.Common.{◌≡◌, ℕ, ◌+◌, ◌-◌, ◌^◌, ◌≤◌, Bool, List, ◌++◌, length, take, sym, ap, ◌∙◌, arith, pow_mono, w32, to_z, of_z}
+use Rattle.std.proofs.Common.{◌≡◌, ℕ, ◌+◌, ◌-◌, Bool, List, ◌++◌, length, take, sym, ap, ◌∙◌, arith, w32, to_z, of_z}
 use borrow.Author.Differences.{ints}
 use Rattle.std.proofs.lemmas.Int.{to_z-of_z}
 use Rattle.readers.specs.Rows.{take_front}
-use Rattle.scored_readers.specs.ExhaustiveReading.{data_word, word_score, best}
+use Rattle.scored_readers.specs.ExhaustiveReading.{data_word, word_score}
 use Rattle.scored_readers.specs.Numbers.{length_data_word, length_rows}
 use Rattle.scored_readers.specs.Largest.{better, no_better}
 use Rattle.scored_readers.proofs.exhaustive.try_words.Goals as goal
@@ -46,12 +46,3 @@ loop-number-preserved g c =
 
 pub shape_of-rows : goal.shape_of-rows
 shape_of-rows g c = length_rows c.args.question.now.marks.now c.loop-number.rows c.loop-number.number 1 c.loop-number.invariant.0 ∙ sym c.requires.room.0
-
-pub returns : goal.returns
-returns g c =
-    let marks = c.args.question.now.marks.now in
-    let f = λ (n : ℕ). word_score g.K.Scored.scoring c.args.question.now.turns c.args.question.now.values.now (data_word marks n) in
-    let count = c.count_ones.ensures in
-    let few : 2 ^ c.count_ones.result ≤ 256 = pow_mono {j = 8} (omega (arith, c.requires.few)) in
-    let last : c.loop-number.number ≡ 2 ^ c.count_ones.result - 1 = omega (arith, c.loop-number.auto.number-end, c.loop-number-test.false) in
-    c.loop-number.invariant.1.0 ∙ ap (λ n. data_word marks (best f n)) (last ∙ ap (λ k. 2 ^ k - 1) count)

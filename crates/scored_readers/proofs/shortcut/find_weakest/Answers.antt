@@ -1,4 +1,4 @@
-use Rattle.std.proofs.Common.{◌≡◌, ℕ, ◌+◌, ◌-◌, ◌<◌, ◌≤◌, true, false, T, List, length, get_or, pos, neg_ℤ, sym, refl, ap, ◌∙◌, arith}
+use Rattle.std.proofs.Common.{◌≡◌, ℕ, ◌+◌, ◌-◌, ◌<◌, ◌≤◌, true, false, T, List, length, get_or, pos, neg_ℤ, sym, ap, ◌∙◌, arith}
 use borrow.Author.Differences.{ints}
 use lib.Signed.{lt_z}
 use Rattle.std.proofs.lemmas.List.{get_or-map}
@@ -29,10 +29,6 @@ width-narrow-requires g c =
     let fits = λ (v : g.row.K.Denot). T (g.K.Soft.kind.fitting v c.args.question.now.turns) in
     (turns_most c.args.question.now.posed, all_read fits c.args.question.now.values.now 0 _ (omega (arith, c.args.question.now.posed.some, c.args.question.now.posed.same)) c.index-values-0.is c.args.question.now.posed.fits)
 
-pub loop-i-init : goal.loop-i-init
-loop-i-init g c =
-    (refl, close_at g.K.Scored.scoring c.args.question.now.turns c.args.question.now.values.now 0 _ _ (omega (arith, c.args.question.now.posed.some, c.args.question.now.posed.same)) c.index-values-0.is c.width-narrow.ensures)
-
 pub width-next-requires : goal.width-next-requires
 width-next-requires g c =
     let fits = λ (v : g.row.K.Denot). T (g.K.Soft.kind.fitting v c.args.question.now.turns) in
@@ -58,11 +54,10 @@ loop-i-preserved g c =
           no_better (λ k. k) close (i - 1) i _ _ (sym before) next inv.1 (no_narrower _ _ more) _ _ _ inv.0 w.place-is (ap (λ n. neg_ℤ (pos n)) w.narrow-is)
     ])
 
-pub returns : goal.returns
-returns g c =
+pub returns-clause-within : goal.returns-clause-within
+returns-clause-within g c =
     let posed = c.args.question.now.posed in
     let values = c.args.question.now.values.now in
     let close = closeness g.K.Scored.scoring c.args.question.now.turns values in
     let last : c.loop-i.i - 1 ≡ length values - 1 = omega (arith, c.loop-i.auto.i-end, c.loop-i-test.false) in
-    let value = c.loop-i.invariant.0 ∙ ap (best close) last in
-    record { value = value; within = omega (arith, value, best_least close (length values - 1), posed.some, posed.same) }
+    omega (arith, c.loop-i.invariant.0 ∙ ap (best close) last, best_least close (length values - 1), posed.some, posed.same)
