@@ -73,8 +73,9 @@ impl Form {
         requires { length self.old < LONGEST }
         ensures { self.new ≡ self.old ++ byte ∷ [] }
     {
-        self.bytes[self.len] = byte;
-        self.len += 1;
+        let len = self.len;
+        self.bytes[len] = byte;
+        self.len = len + 1;
     }
 
     // Writes `n` in groups of seven bits.
