@@ -1,7 +1,7 @@
 -- Rows of counts and levels: one element more, and the way there and back. Assumes nothing.
 use Rattle.std.proofs.Common.{◌≡◌, ℕ, zero, suc, ◌+◌, ◌^◌, ◌<◌, ◌≤◌, Bool, true, false, not, ◌&&◌, List, [], ◌∷◌, ◌++◌, map, length, get_or, take, drop, set, ℤ, Some, None, Ok, Err, Option, sym, refl, ap, ◌∙◌, arith, eq-eqb}
 use lib.Ieee.{Float, nan, inf, fin, is_nan}
-use Rattle.std.proofs.lemmas.List.{append_assoc, length-map, length-take-le, set_at, drop_more, map_more, map_push, take_more_set, take_all}
+use Rattle.std.proofs.lemmas.List.{append_assoc, length-map, length-take-le, set_at, drop_more, map_more, take_all}
 use denote.Ref.{Bor}
 use Rattle.std.specs.Bool.{MatchBool}
 use Rattle.std.specs.Option.{option_map, IfSome, IsSomeAnd}
@@ -25,17 +25,7 @@ written_more {X} {Y} f xs old new i d y l m e h =
     ∙ sym (append_assoc P (y ∷ []) (drop (i + 1) old))
     ∙ ap (λ (v : List Y). v ++ drop (i + 1) old) (ap (λ (z : Y). P ++ z ∷ []) h ∙ sym (map_more f xs i d l))
 
-pub written_all : {X Y : Type 0} (f : X → Y) (xs : List X) (old new : List Y) (i : ℕ) → i ≡ length xs → new ≡ map f (take i xs) ++ drop i old → new ≡ map f xs ++ drop (length xs) old
-written_all {X} {Y} f xs old new i n e = e ∙ (λ j. map f (take (n j) xs) ++ drop (n j) old) ∙ ap (λ (v : List X). map f v ++ drop (length xs) old) (take_all (length xs) xs (omega arith))
-
--- a row whose first i places hold the counts that g gives for the first i levels
-pub read_more : (g : Float → Option ℤ) (xs : List Float) (cs : List ℤ) (i : ℕ) (d : Float) (c : ℤ) → i < length xs → i < length cs
-    → map Some (take i cs) ≡ map g (take i xs) → g (get_or xs i d) ≡ Some c → map Some (take (i + 1) (set cs i c)) ≡ map g (take (i + 1) xs)
-read_more g xs cs i d c l m h e =
-    ap (map Some) (take_more_set cs i c m) ∙ map_push Some (take i cs) c
-    ∙ (λ j. h j ++ sym e j ∷ [])
-    ∙ sym (map_more g xs i d l)
-
+-- a row all of whose places hold the counts that g gives for the levels
 pub read_all : (g : Float → Option ℤ) (xs : List Float) (cs : List ℤ) (i : ℕ) → i ≡ length xs → length cs ≡ i → map Some (take i cs) ≡ map g (take i xs) → map Some cs ≡ map g xs
 read_all g xs cs i n m h = sym (ap (map Some) (take_all i cs (omega arith))) ∙ h ∙ ap (map g) (take_all i xs (omega arith))
 
@@ -57,7 +47,7 @@ tested false xs m p q = sym (q m)
 -- a level that a run came to
 module _ {P : Bor Float → Type 0} (v : Float) (b : Bool) (says : (x : Bor Float) → P x → is_nan x.now ≡ b) where
   pub seen_if : (o : Option (Bor Float)) → option_map (λ x. x.now) o ≡ Some v → IfSome o P → is_nan v ≡ b
-  seen_if None e h = let z : ◌≡◌ {A = ℕ} 0 1 = cc in absurd (omega arith)
+  seen_if None e h = cc
   seen_if (Some x) e h = let same : v ≡ x.now = cc in ap is_nan same ∙ says x h
 
   pub seen_and : (o : Option (Bor Float)) → option_map (λ x. x.now) o ≡ Some v → IsSomeAnd o P → is_nan v ≡ b
@@ -78,13 +68,13 @@ level_number k c (fin s m e) v = refl
 
 same_counts : (cs ds : List ℤ) → map Some cs ≡ map Some ds → cs ≡ ds
 same_counts [] [] h = refl
-same_counts [] (d ∷ ds) h = let z : ◌≡◌ {A = ℕ} 0 1 = cc in absurd (omega arith)
-same_counts (c ∷ cs) [] h = let z : ◌≡◌ {A = ℕ} 0 1 = cc in absurd (omega arith)
+same_counts [] (d ∷ ds) h = cc
+same_counts (c ∷ cs) [] h = cc
 same_counts (c ∷ cs) (d ∷ ds) h = let e : c ≡ d = cc in let rest = same_counts cs ds (cc) in cc
 
 pub all_within : (t k : ℕ) (xs : List Float) (cs : List ℤ) → map Some cs ≡ map (count_of t k) xs → AllWithin t cs
 all_within t k xs [] h = tt
-all_within t k [] (c ∷ cs) h = let z : ◌≡◌ {A = ℕ} 0 1 = cc in absurd (omega arith)
+all_within t k [] (c ∷ cs) h = cc
 all_within t k (x ∷ xs) (c ∷ cs) h = (within nearest nearest_rounds t k x c (cc), all_within t k xs cs (cc))
 
 -- ---- counts of size t at most, on a scale with exponent k: their levels are numbers, and have these counts
@@ -104,5 +94,4 @@ module _ (t k : ℕ) (few : t < 2 ^ 24) (fine : k ≤ 149) where
   rows_return cs before after (Err e) h n i =
       let same = eq-eqb _ _ (length-map cs (level_of k) ∙ sym n) in
       let none : import_due (map (level_of k) cs) before ≡ None = λ j. refused_unless (same j) ItemCount (refused_unless (numbers_of cs h j) Range None) in
-      let z : ◌≡◌ {A = ℕ} 0 1 = cc in
-      absurd (omega arith)
+      cc
