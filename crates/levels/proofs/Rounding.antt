@@ -1,15 +1,15 @@
 -- From a float to a count: what a rounding rule has to satisfy, and that clipping, rounding and the cast to an integer then follow `count_by`. Assumes nothing.
-use Rattle.std.proofs.Common.{◌≡◌, ℕ, zero, suc, ◌+◌, ◌-◌, ◌*◌, ◌/◌, ◌^◌, ◌<◌, ◌≤◌, min, Bool, true, false, cond, not, T, ltb, ℤ, pos, negsuc, neg_ℤ, nat_abs, Some, unwrap_or, sym, refl, ap, ◌∙◌, inl, inr, true≢false, le_trans, le_of_eq, le_of_lt, mul-le-mul_right, div-lt_iff_lt-mul, le_antisymm, mul-one, div-mul-le_self, le_of_mul-le-mul_right, mul-div_cancel, arith, pow_pos, ltb-false, ltb-true}
-use native.Mathlib.Nat.{div-eq_of_lt-le}
+use Rattle.std.proofs.Common.{◌≡◌, ℕ, zero, suc, ◌+◌, ◌-◌, ◌*◌, ◌/◌, ◌^◌, ◌<◌, ◌≤◌, min, Bool, true, false, cond, not, T, ltb, ℤ, pos, negsuc, neg_ℤ, nat_abs, Some, unwrap_or, sym, refl, ap, ◌∙◌, inl, inr, true≢false, le_trans, le_of_eq, le_of_lt, mul-le-mul_right, le_antisymm, mul-one, le_of_mul-le-mul_right, mul-div_cancel, arith, pow_pos, ltb-false, ltb-true}
 use lib.Ieee.{Float, nan, inf, fin, binary32, up, down, round, neg, mul, lt, is_nan, fits, to_signed}
+use Rattle.std.proofs.lemmas.Bool.{cases_lt}
 use lib.Ieee.Fits.{down_pos}
 use lib.Ieee.Exact.{HasValue}
 use lib.Ieee.Back.{round_whole}
 use lib.Ieee.Nearest.{div_mono}
 use Rattle.std.specs.Float.{float_clamp, round_with}
-use Rattle.levels.specs.Rounding.{nearest, RoundingStands, ClippingCommutes}
+use Rattle.levels.specs.Rounding.{nearest, ClippingCommutes}
 use Rattle.levels.specs.Level.{signed, negative, IsLevel, count_by}
-use Rattle.levels.proofs.Scaling.{AtLeast, order, scaled_exact, round_at_least, mul_by, mul_inf_by, mul_number}
+use Rattle.levels.proofs.Scaling.{AtLeast, scaled_exact, round_at_least, mul_by, mul_inf_by, mul_number}
 
 -- A rule that takes a fraction to a whole number: a larger fraction never to a smaller number, and a whole number to itself.
 pub record Rounds (p : ℕ → ℕ → ℕ) : Type 0 where
@@ -72,15 +72,15 @@ module _ (p : ℕ → ℕ → ℕ) (R : Rounds p) where
 
   pub clipping_commutes : ClippingCommutes p
   clipping_commutes t a b B =
-      elim (order a (t * b)) [
+      elim (cases_lt (t * b) a) [
         | inl g ↦
-            let l : p a b ≤ t = at_most t a b B g in
-            let m : min t (p a b) ≡ p a b = omega arith in
-            m ∙ ap (λ (x : ℕ). p x b) {x = a} {y = min a (t * b)} (omega arith)
-        | inr g ↦
             let l : t ≤ p a b = at_least t a b B (le_of_lt g) in
             let m : min t (p a b) ≡ t = omega arith in
             m ∙ sym (topped t a b B (le_of_lt g))
+        | inr g ↦
+            let l : p a b ≤ t = at_most t a b B g in
+            let m : min t (p a b) ≡ p a b = omega arith in
+            m ∙ ap (λ (x : ℕ). p x b) {x = a} {y = min a (t * b)} (omega arith)
       ]
 
   -- a count's own level comes back as that count
@@ -95,7 +95,7 @@ module _ (p : ℕ → ℕ → ℕ) (R : Rounds p) where
 
   -- no count is beyond the top
   pub within : (t k : ℕ) (x : Float) (c : ℤ) → count_by p t k x ≡ Some c → nat_abs c ≤ t
-  within t k nan c h = let z : ◌≡◌ {A = ℕ} 0 1 = cc in omega arith
+  within t k nan c h = cc
   within t k (inf s) c h = let e : signed s t ≡ c = cc in omega (arith, ap nat_abs e, signed_size s t)
   within t k (fin s m e) c h =
       let a = min (m * up e * 2 ^ k) (t * down e) in
@@ -180,11 +180,11 @@ module _ (p : ℕ → ℕ → ℕ) (R : Rounds p) where
         let a = m * up e * 2 ^ k in
         let r : mul binary32 (fin s m e) y ≡ round binary32 s a (down e) = mul_by binary32 s m e y (2 ^ k) 1 (omega arith) v ∙ ap (round binary32 s a) (mul-one (down e)) in
         ap (count_by p t 0) r
-        ∙ elim (order (2 ^ 15 * down e) a) [
-          | inl g ↦
+        ∙ elim (cases_lt a (2 ^ 15 * down e)) [
+          | inl g ↦ by_value (round binary32 s a (down e)) s a (down e) (down_pos e) (scaled_exact binary32 s m e k f (omega (arith, down_pos e)))
+          | inr g ↦
               by_size (round binary32 s a (down e)) s (round_at_least binary32 s a (down e) 15 (down_pos e) g)
               ∙ ap (λ (q : ℕ). Some (signed s q)) (sym (topped t a (down e) (down_pos e) (le_trans (mul-le-mul_right (down e) (le_of_lt small)) g)))
-          | inr g ↦ by_value (round binary32 s a (down e)) s a (down e) (down_pos e) (scaled_exact binary32 s m e k f (omega (arith, down_pos e)))
         ]
 
     -- what a function returns that multiplies x by y, clips to -hi..hi, rounds and casts
@@ -208,13 +208,3 @@ module _ (p : ℕ → ℕ → ℕ) (R : Rounds p) where
     counted_or_zero nan k y hi z r f v h e₀ e₁ = counted_nan y hi z r h e₀ e₁
     counted_or_zero (inf s) k y hi z r f v h e₀ e₁ = ap (λ o. unwrap_or o (pos 0)) (sym (counted (inf s) k y hi z r f tt v h e₀ e₁))
     counted_or_zero (fin s m e) k y hi z r f v h e₀ e₁ = ap (λ o. unwrap_or o (pos 0)) (sym (counted (fin s m e) k y hi z r f tt v h e₀ e₁))
-
--- ---- `nearest` is the nearest whole number
-pub rounding_stands : RoundingStands
-rounding_stands a d D =
-    let n = nearest a d in
-    let q : n * (2 * d) ≤ 2 * a + d = div-mul-le_self (2 * a + d) (2 * d) in
-    let P : 0 < 2 * d = omega arith in
-    let l : n < n + 1 = omega arith in
-    let r : 2 * a + d < (n + 1) * (2 * d) = (div-lt_iff_lt-mul P).0 l in
-    ((omega arith, omega arith), λ m h. sym (div-eq_of_lt-le {k = m} (2 * d) (omega (arith, h)) (omega (arith, h))))

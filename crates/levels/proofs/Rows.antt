@@ -33,7 +33,7 @@ tested false xs m p q = sym (q m)
 -- a level that a run came to
 module _ {P : Bor Float → Type 0} (v : Float) (b : Bool) (says : (x : Bor Float) → P x → is_nan x.now ≡ b) where
   pub seen_if : (o : Option (Bor Float)) → option_map (λ x. x.now) o ≡ Some v → IfSome o P → is_nan v ≡ b
-  seen_if None e h = let z : ◌≡◌ {A = ℕ} 0 1 = cc in absurd (omega arith)
+  seen_if None e h = cc
   seen_if (Some x) e h = let same : v ≡ x.now = cc in ap is_nan same ∙ says x h
 
   pub seen_and : (o : Option (Bor Float)) → option_map (λ x. x.now) o ≡ Some v → IsSomeAnd o P → is_nan v ≡ b
@@ -63,13 +63,13 @@ level_number k c (fin s m e) v = refl
 
 same_counts : (cs ds : List ℤ) → map Some cs ≡ map Some ds → cs ≡ ds
 same_counts [] [] h = refl
-same_counts [] (d ∷ ds) h = let z : ◌≡◌ {A = ℕ} 0 1 = cc in absurd (omega arith)
-same_counts (c ∷ cs) [] h = let z : ◌≡◌ {A = ℕ} 0 1 = cc in absurd (omega arith)
+same_counts [] (d ∷ ds) h = cc
+same_counts (c ∷ cs) [] h = cc
 same_counts (c ∷ cs) (d ∷ ds) h = let e : c ≡ d = cc in let rest = same_counts cs ds (cc) in cc
 
 pub all_within : (t k : ℕ) (xs : List Float) (cs : List ℤ) → map Some cs ≡ map (count_of t k) xs → AllWithin t cs
 all_within t k xs [] h = tt
-all_within t k [] (c ∷ cs) h = let z : ◌≡◌ {A = ℕ} 0 1 = cc in absurd (omega arith)
+all_within t k [] (c ∷ cs) h = cc
 all_within t k (x ∷ xs) (c ∷ cs) h = (within nearest nearest_rounds t k x c (cc), all_within t k xs cs (cc))
 
 -- ---- counts of size t at most, on a scale with exponent k: their levels are numbers, and have these counts
@@ -89,5 +89,4 @@ module _ (t k : ℕ) (few : t < 2 ^ 24) (fine : k ≤ 149) where
   rows_return cs before after (Err e) h n i =
       let same = eq-eqb _ _ (length-map cs (level_of k) ∙ sym n) in
       let none : import_due (map (level_of k) cs) before ≡ None = λ j. refused_unless (same j) ItemCount (refused_unless (numbers_of cs h j) Range None) in
-      let z : ◌≡◌ {A = ℕ} 0 1 = cc in
-      absurd (omega arith)
+      cc

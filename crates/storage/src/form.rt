@@ -20,12 +20,13 @@ pub struct Form {
 // Clauses see the bytes that are written.
 impl Model for Form {
     ghost use Rattle.std.specs.Prelude.{ℕ, ◌≤◌, List, take};
+    ghost use Rattle.storage.specs.declared.form.TheConstants.{LONGEST};
 
     ghost Value = { List ℕ };
 
     ghost view = { λ f. take f.len f.bytes };
 
-    ghost invariant = { λ f. f.len ≤ 12293 };
+    ghost invariant = { λ f. f.len ≤ LONGEST };
 }
 
 // The code of a count: 2v from 0 up, -2v - 1 below.
@@ -73,8 +74,9 @@ impl Form {
         requires { length self.old < LONGEST }
         ensures { self.new ≡ self.old ++ byte ∷ [] }
     {
-        self.bytes[self.len] = byte;
-        self.len += 1;
+        let len = self.len;
+        self.bytes[len] = byte;
+        self.len = len + 1;
     }
 
     // Writes `n` in groups of seven bits.

@@ -1,17 +1,12 @@
-use Rattle.std.proofs.Common.{◌≡◌, ℕ, Some, sym, ap, ◌∙◌, arith, w16, to_z, of_z, rules}
+use Rattle.std.proofs.Common.{◌≡◌, Some, sym, ap, ◌∙◌, w16, to_z, of_z, rules}
 use Rattle.levels.specs.Rounding.{nearest}
 use Rattle.levels.specs.Level.{largest_count, exponent_of, count_of}
-use Rattle.levels.proofs.Rounding.{nearest_rounds, rounding_stands, clipping_commutes, within}
+use Rattle.levels.proofs.Rounding.{nearest_rounds, clipping_commutes, within}
 use Rattle.levels.proofs.Rows.{count_taken}
 use Rattle.levels.proofs.scale.Scale.count_of.Goals as goal
 
-pub returns-then-is_nan : goal.returns-then-is_nan
-returns-then-is_nan c = record {
-  value = search rules;
-  within = λ n h. let z : ◌≡◌ {A = ℕ} 0 1 = cc in absurd (omega arith);
-  rounding = rounding_stands;
-  order = clipping_commutes nearest nearest_rounds;
-}
+pub returns-then-is_nan-clause-order : goal.returns-then-is_nan-clause-order
+returns-then-is_nan-clause-order c = clipping_commutes nearest nearest_rounds
 
 pub returns : goal.returns
 returns c =
@@ -21,6 +16,6 @@ returns c =
     record {
       value = (search rules, converted);
       within = λ m h. let same : n ≡ m = cc in within nearest nearest_rounds largest_count _ c.args.level m (converted ∙ ap Some same);
-      rounding = rounding_stands;
+      rounding = search rules;
       order = clipping_commutes nearest nearest_rounds;
     }
