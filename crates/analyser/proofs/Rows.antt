@@ -2,13 +2,13 @@
 use Rattle.std.proofs.Common.{◌≡◌, ℕ, ◌-◌, ◌≤◌, Bool, true, false, List, [], ◌∷◌, ◌++◌, length, take, drop, None, Ok, sym, refl, ap, ◌∙◌, ap₂, arith, take_at}
 use borrow.Rule.Slice.PartMut.{post_of, Post-is}
 use lib.ListN.{length-map, length-replicate}
+use native.Mathlib.Nat.{sub-zero}
 use Rattle.std.proofs.lemmas.Bool.{le-ltb}
 use Rattle.polar.specs.Words.{trues}
 use Rattle.polar.specs.Bytes.{byte, all_bits, bits, bytes}
 use Rattle.polar.specs.Codewords.{codeword}
 use Rattle.polar.specs.Plans.{Encoded}
 use Rattle.polar.proofs.Codes.{bits_bytes, front_bytes, length_codeword}
-use Rattle.captures.proofs.Storing.{front_is}
 use Rattle.analyser.specs.Assurance.{LimitIsTight}
 use Rattle.analyser.specs.Worst.{plan_weight, zero_word, leaf_word, places_of, worst_due, WorstWritten}
 use Rattle.analyser.proofs.Lightest.{length_leaf_word, first_weighs}
@@ -21,10 +21,14 @@ all_bits_bytes (true ∷ w) = all_bits_bytes w
 all_bits_bytes (false ∷ w) = all_bits_bytes w
 
 -- the front of a row that data are encoded into
-pub encoded_front : (ms : List Bool) (ds before after : List ℕ) (m n : ℕ) → 1 ≤ length ms → n ≡ length ms → Encoded ms ds before (Ok m) after → bits (take (n - 0) after) ≡ codeword ms (bits ds)
-encoded_front ms ds before after m n some is done =
+pub codeword_front : (ms : List Bool) (ds before after : List ℕ) (m n : ℕ) → 1 ≤ length ms → n ≡ length ms → Encoded ms ds before (Ok m) after → take (n - 0) after ≡ bytes (codeword ms (bits ds))
+codeword_front ms ds before after m n some is done =
     let w = codeword ms (bits ds) in
-    ap bits (front_is n (bytes w) (drop m before) after done.1.1 (length-map w byte ∙ length_codeword ms (bits ds) some ∙ sym is)) ∙ bits_bytes w
+    let size : length (bytes w) ≡ n = length-map w byte ∙ length_codeword ms (bits ds) some ∙ sym is in
+    rw (done.1.1, sub-zero) (take_at (bytes w) (drop m before) n size)
+
+pub encoded_front : (ms : List Bool) (ds before after : List ℕ) (m n : ℕ) → 1 ≤ length ms → n ≡ length ms → Encoded ms ds before (Ok m) after → bits (take (n - 0) after) ≡ codeword ms (bits ds)
+encoded_front ms ds before after m n some is done = ap bits (codeword_front ms ds before after m n some is done) ∙ bits_bytes (codeword ms (bits ds))
 
 -- no row is too short
 pub nothing_due : (ms : List Bool) (one other places : ℕ) → trues ms ≤ one → trues ms ≤ other → plan_weight ms ≤ places → worst_due ms one other places ≡ None

@@ -53,5 +53,8 @@ pub(crate) fn put_values<K: Spoken>(counts: &[i16], values: &mut [K])
     requires { length values.old ≡ length counts.now }
     ensures { values.new ≡ map K.Spoken.spoken counts.now }
 {
-    write_all(values, counts.iter().map(|count| K::of_count(*count)));
+    write_all(
+        values,
+        counts.iter().copied().map(|count| K::of_count(count)),
+    );
 }

@@ -12,15 +12,8 @@ use Rattle.polar.proofs.Sums.{trues_bound}
 use Rattle.polar.proofs.Codes.{length_codeword}
 use Rattle.captures.specs.Captures.{Captured}
 use Rattle.captures.specs.Calls.{word_due}
-use Rattle.captures.proofs.Storing.{front_is}
 use Rattle.analyser.proofs.Rows.{all_bits_bytes}
 use Rattle.reports.specs.Pages.{tell_due}
-
--- the front of the row is the codeword
-pub codeword_front : (ms : List Bool) (ds before after : List ℕ) (m n : ℕ) → 1 ≤ length ms → n ≡ length ms → Encoded ms ds before (Ok m) after → take (n - 0) after ≡ bytes (codeword ms (bits ds))
-codeword_front ms ds before after m n some is done =
-    let w = codeword ms (bits ds) in
-    front_is n (bytes w) (drop m before) after done.1.1 (length-map w byte ∙ length_codeword ms (bits ds) some ∙ sym is)
 
 -- no question about a codeword is refused
 pub no_refusal : (top : ℕ) (ms : List Bool) (word : List ℕ) (ds : List Bool) → 1 ≤ length ms → word ≡ bytes (codeword ms ds) → word_due top ms word ≡ None

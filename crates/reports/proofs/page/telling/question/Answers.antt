@@ -8,7 +8,8 @@ use Rattle.polar.proofs.PlanFacts.{sized}
 use Rattle.captures.specs.Captures.{shortfall, first_against}
 use Rattle.captures.specs.Tops.{top_count}
 use Rattle.captures.specs.Views.{captured}
-use Rattle.reports.proofs.Questions.{codeword_front, no_refusal, tells, told_few}
+use Rattle.analyser.proofs.Rows.{codeword_front}
+use Rattle.reports.proofs.Questions.{no_refusal, tells, told_few}
 use Rattle.reports.proofs.page.telling.question.Goals as goal
 use Rattle.reports.proofs.page.telling.question.Goals.{After-shortfall}
 
