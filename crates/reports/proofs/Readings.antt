@@ -23,15 +23,12 @@ use Rattle.analyser.specs.Assurance.{Planned, LightHistoriesReadTrue}
 use Rattle.analyser.specs.Comparing.{data_kept}
 use Rattle.analyser.specs.Reading.{CaptureRead, values_of}
 use Rattle.analyser.proofs.CaptureReadings.{posed_capture}
-use Rattle.analyser.proofs.Comparisons.{front_data, output_never}
+use Rattle.analyser.proofs.Comparisons.{front_data, output_never, planned}
 use Rattle.analyser.proofs.Rows.{all_bits_bytes}
 use Rattle.reports.specs.declared.page.Page.{Page}
 use Rattle.reports.specs.Pages.{text_on, tell_due, Told}
 use Rattle.reports.specs.Report.{report}
 use Rattle.reports.specs.Printed.{LightHistoriesPrintTrue}
-
-planned : (s : Capture) → Planned (captured s).marks_row
-planned s = let size = sized s.plan in record { some = size.0; short = size.1; active = size.2 }
 
 module _ (reading : Reading Count) (s : Capture) (before : Buffers Count) (room : length before.output ≡ 4096) where
   abbrev pub ms : List Bool
