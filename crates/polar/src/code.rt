@@ -1,9 +1,7 @@
 // Codewords: encoding data by a plan, and taking data out of a block's bits.
 ghost use Rattle.std.specs.Prelude.{◌≡◌, ◌≤◌, Bool, List, ◌++◌, length, take, drop, IfOk};
-ghost use Rattle.polar.specs.Shape.{balanced};
 ghost use Rattle.polar.specs.Words.{trues};
 ghost use Rattle.polar.specs.Bytes.{bits, bytes};
-ghost use Rattle.polar.specs.Labels.{unlabel};
 ghost use Rattle.polar.specs.Marks.{spread, collect};
 ghost use Rattle.polar.specs.Codewords.{codeword, Encodes};
 ghost use Rattle.polar.specs.Plans.{marks_of, Encoded, Extracted, TakenOut};
