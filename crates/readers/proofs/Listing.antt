@@ -1,5 +1,5 @@
 -- The loops over a list, and what reading one promises. Assumes nothing.
-use Rattle.std.proofs.Common.{◌≡◌, ℕ, suc, fold, nat_lt, ◌+◌, ◌*◌, ◌<◌, ◌≤◌, Bool, true, false, cond, not, ◌&&◌, T, leb, List, [], ◌∷◌, ◌++◌, length, get_or, take, drop, is_some, IfOk, Some, None, Ok, Err, Option, Result, sym, refl, ap, ◌∙◌, subst, mul-one, arith}
+use Rattle.std.proofs.Common.{◌≡◌, ℕ, suc, fold, nat_lt, ◌+◌, ◌*◌, ◌<◌, ◌≤◌, Bool, true, false, cond, not, ◌&&◌, T, leb, List, [], ◌∷◌, ◌++◌, length, get_or, take, drop, IfOk, Some, None, Ok, Err, Option, Result, sym, refl, ap, ◌∙◌, subst, mul-one, arith}
 use Rattle.std.specs.Option.{option_map}
 use Rattle.std.proofs.lemmas.List.{drop_more}
 use Rattle.std.proofs.lemmas.Bool.{and_parts, leb-true, cond-true, false≢true}
@@ -25,13 +25,6 @@ use Rattle.readers.specs.Readings.{Reading, ReaderRules, Posed, AllFit, most_pla
 use Rattle.readers.specs.Blocks.{first_unfit, pile_due, NearReadsTrue}
 
 -- ---- options of a place
-
-pub some_none : (o : Option ℕ) → not (is_some o) ≡ true → o ≡ None
-some_none None h = refl
-some_none (Some k) h = let z : false ≡ true = h in absurd (differ z)
-  where
-    differ : false ≡ true → ⊥
-    differ e = let n : ◌≡◌ {A = ℕ} 0 1 = cc in omega arith
 
 later_none : (o : Option ℕ) → option_map suc o ≡ None → o ≡ None
 later_none None h = refl

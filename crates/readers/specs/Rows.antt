@@ -3,20 +3,24 @@ use Rattle.std.specs.Prelude.{◌≡◌, ℕ, zero, suc, ◌+◌, ◌-◌, ◌<�
 use Rattle.std.proofs.Common.{sym, ap, subst, ◌∙◌, arith, length-take}
 use Rattle.std.proofs.Math.Nat.{sub-zero}
 use Rattle.std.specs.List.{AllByRecursion}
-use Rattle.std.proofs.lemmas.List.{length-take-le, take_at, drop_at, take_more, take_more_set, get_or_read}
-use Rattle.std.proofs.ByRecursion.{All-get_or}
+use Rattle.std.proofs.lemmas.List.{take_at, drop_at, take_more, take_more_set, get_or_read}
+use Rattle.std.proofs.lemmas.List.Elements.{All-from_recursion, recursion_from_All, All-take, All-drop}
 use Rattle.polar.specs.Words.{xor, merge, plus}
 use Rattle.polar.specs.Labels.{join}
 use Rattle.polar.proofs.Merges.{get_or_merge_past, merge_more, merge_past}
 use Rattle.readers.specs.SplitReading.{joins}
 
 pub all_read : {A : Type 0} (P : A → Type 0) (xs : List A) (i : ℕ) (x : A) → i < length xs → x ≡ slice_index_or xs i x → AllByRecursion P xs → P x
-all_read P xs i x h read all = subst P (sym read) (All-get_or P xs i x h all)
+all_read P xs i x h read all = subst P (sym read) (All-from_recursion P xs all i x h)
+
+-- both parts of a list have what all of it has
+pub all_take : {A : Type 0} (P : A → Type 0) (n : ℕ) (xs : List A) → AllByRecursion P xs → AllByRecursion P (take n xs)
+all_take P n xs all = recursion_from_All P (take n xs) (All-take P n xs (All-from_recursion P xs all))
+
+pub all_drop : {A : Type 0} (P : A → Type 0) (n : ℕ) (xs : List A) → AllByRecursion P xs → AllByRecursion P (drop n xs)
+all_drop P n xs all = recursion_from_All P (drop n xs) (All-drop P n xs (All-from_recursion P xs all))
 
 -- `&s[0..n]` as the checker reads it
-pub length_front : {A : Type 0} (n : ℕ) (xs : List A) → n ≤ length xs → length (take (n - 0) xs) ≡ n
-length_front n xs h = rw sub-zero (length-take-le n xs h)
-
 pub take_front : {A : Type 0} (n : ℕ) (xs ys : List A) → length xs ≡ n → take (n - 0) (xs ++ ys) ≡ xs
 take_front n xs ys long = rw sub-zero (take_at xs ys n long)
 

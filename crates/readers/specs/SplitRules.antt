@@ -2,7 +2,6 @@
 use Rattle.std.specs.Prelude.{◌≡◌, ℕ, ◌+◌, ◌-◌, ◌*◌, ◌/◌, ◌^◌, ◌<◌, ◌≤◌, Bool, true, List, [], ◌∷◌, length, take, drop, refl}
 use Rattle.std.proofs.Common.{sym, ap, subst, ◌∙◌, arith, mul_assoc, mul-le-mul_left, pow-add}
 use Rattle.std.proofs.lemmas.List.{length-take-le, length-drop}
-use Rattle.std.proofs.ByRecursion.{All-take, All-drop}
 use Rattle.std.proofs.lemmas.Bool.{cond_both}
 use Rattle.soft.specs.Kind.{Kind, Rules, limit}
 use Rattle.polar.specs.Shape.{Shape, node, leaves, balanced}
@@ -14,6 +13,7 @@ use Rattle.polar.proofs.Distance.{lesser_left, lesser_right}
 use Rattle.polar.proofs.Parts.{parts_join, left_codeword, right_codeword, join_codeword, same_codeword, left_part, right_part}
 use Rattle.readers.specs.Readings.{Reading, ReaderRules, Posed, total}
 use Rattle.readers.specs.SplitReading.{left_values, right_values, split_answer, split_reading}
+use Rattle.readers.specs.Rows.{all_take, all_drop}
 use Rattle.readers.specs.Node.{few_turns}
 use Rattle.readers.specs.Totals.{total_join, total_compared, total_joined}
 use Rattle.readers.specs.SplitSteps.{posed_left, posed_right}
@@ -125,10 +125,10 @@ module _ {K : Type 0} (kind : Kind K) (rules : Rules kind) (below : Reading K) (
       few = few_turns posed two_marks
 
       compared : total kind turns lefts x ≤ total kind turns values word
-      compared = rw parts (total_compared kind rules turns (omega (arith, few)) (take h values) (drop h values) x y (All-take _ h values posed.fits) (All-drop _ h values posed.fits) front back)
+      compared = rw parts (total_compared kind rules turns (omega (arith, few)) (take h values) (drop h values) x y (all_take _ h values posed.fits) (all_drop _ h values posed.fits) front back)
 
       joined : total kind (turns + 1) (rights x) y ≤ total kind turns values word
-      joined = rw parts (total_joined kind rules turns few (take h values) (drop h values) x y (All-take _ h values posed.fits) (All-drop _ h values posed.fits) front back)
+      joined = rw parts (total_joined kind rules turns few (take h values) (drop h values) x y (all_take _ h values posed.fits) (all_drop _ h values posed.fits) front back)
 
       -- each child's label is near where it has an active leaf
       near_left : 1 ≤ weight l (take h marks) → total kind turns lefts x < limit kind turns * weight l (take h marks)

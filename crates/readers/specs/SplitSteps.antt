@@ -2,7 +2,6 @@
 use Rattle.std.specs.Prelude.{◌≡◌, ℕ, ◌+◌, ◌-◌, ◌*◌, ◌/◌, ◌^◌, ◌≤◌, max, Bool, true, false, T, List, [], ◌∷◌, length, take, drop, refl}
 use Rattle.std.proofs.Common.{sym, ap, ◌∙◌, arith, mul-le-mul_right}
 use Rattle.std.proofs.lemmas.List.{length-drop, length-take-le}
-use Rattle.std.proofs.ByRecursion.{All-take, All-drop}
 use Rattle.std.proofs.lemmas.Bool.{both_ways, cond-true, cond-false}
 use Rattle.soft.specs.Kind.{Kind, Rules}
 use Rattle.polar.specs.Shape.{Shape, leaf, node, balanced}
@@ -13,7 +12,7 @@ use Rattle.readers.specs.Readings.{Reading, ReaderRules, Posed, Ready}
 use Rattle.readers.specs.SplitReading.{split_answer, split_reading, left_values, right_values, own_places}
 use Rattle.readers.specs.Halves.{Halving}
 use Rattle.readers.specs.Node.{turns_most, few_turns, right_short}
-use Rattle.readers.specs.Rows.{all_merge, length_joins, all_joins}
+use Rattle.readers.specs.Rows.{all_take, all_drop, all_merge, length_joins, all_joins}
 
 module _ {K : Type 0} (kind : Kind K) (rules : Rules kind) (marks : List Bool) (turns : ℕ) (values : List K) (posed : Posed kind marks turns values) (two : 2 ≤ length marks) (half : ℕ) (halved : half ≡ length marks - length marks / 2) where
   left_long : length (left_values kind half values) ≡ half
@@ -27,7 +26,7 @@ module _ {K : Type 0} (kind : Kind K) (rules : Rules kind) (marks : List Bool) (
         some = omega arith;
         short = omega (arith, posed.short, mul-le-mul_right {m = length (take half marks)} {n = length marks} (2 ^ turns) (omega arith));
         same = left_long ∙ sym long;
-        fits = all_merge kind.compared (λ v. T (kind.fitting v turns)) (λ v w. rules.compared_fits v w turns few) _ _ (All-take _ half values posed.fits) (All-drop _ half values posed.fits);
+        fits = all_merge kind.compared (λ v. T (kind.fitting v turns)) (λ v w. rules.compared_fits v w turns few) _ _ (all_take _ half values posed.fits) (all_drop _ half values posed.fits);
       }
 
   pub posed_right : (left : List Bool) → length left ≡ half → Posed kind (drop half marks) (turns + 1) (right_values kind half values left)
@@ -40,7 +39,7 @@ module _ {K : Type 0} (kind : Kind K) (rules : Rules kind) (marks : List Bool) (
         some = omega arith;
         short = rw long (right_short (length marks) turns posed.short);
         same = length_joins kind.joined _ _ left (omega arith) (omega arith) ∙ back ∙ sym long;
-        fits = all_joins kind.joined (λ v. T (kind.fitting v turns)) (λ v. T (kind.fitting v (turns + 1))) (λ v w b. rules.joined_fits v w b turns few) _ _ left (All-take _ half values posed.fits) (All-drop _ half values posed.fits);
+        fits = all_joins kind.joined (λ v. T (kind.fitting v turns)) (λ v. T (kind.fitting v (turns + 1))) (λ v w b. rules.joined_fits v w b turns few) _ _ left (all_take _ half values posed.fits) (all_drop _ half values posed.fits);
       }
 
 module _ {K : Type 0} (kind : Kind K) (below : Reading K) where
