@@ -9,7 +9,6 @@ ghost use Rattle.readers.specs.Blocks.{first_unfit, pile_due, rows, ListRead, Wo
 
 use crate::question::Question;
 use crate::reader::Reader;
-use polar::bits::are_bits;
 use polar::code::take_out;
 use polar::plan::Plan;
 use polar::refusal::Refusal;
@@ -112,12 +111,7 @@ pub fn shortfall<K: Listed>(plan: &Plan, values: &[K], word: &[u8]) -> Result<u3
     if let Some(place) = first_misfit(values) {
         return Err(K::unfit(place));
     }
-    if word.len() != plan.length() {
-        return Err(Refusal::ItemCount);
-    }
-    if !are_bits(word) {
-        return Err(Refusal::Data);
-    }
+    plan.check_word(word)?;
     Ok(sum_shortfalls(values, word))
 }
 

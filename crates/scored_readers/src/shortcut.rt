@@ -8,6 +8,7 @@ use crate::exhaustive::score_word;
 use crate::pattern::Pattern;
 use polar::bits::count_ones;
 use polar::labels::transform;
+use polar::rows::write_all;
 use readers::question::Question;
 use readers::reader::Reader;
 use readers::split::add_places;
@@ -79,9 +80,7 @@ fn decide_all<K: Soft>(values: &[K], out: &mut [bool])
     requires { length out.old ≡ length values.now }
     ensures { out.new ≡ map K.Soft.kind.decided values.now }
 {
-    for (i, v) in values.iter().enumerate() {
-        out[i] = v.decide();
-    }
+    write_all(out, values.iter().copied().map(|v| v.decide()));
 }
 
 // Decides each symbol, and turns the weakest one if their sum is odd.
