@@ -36,6 +36,7 @@ pub fn compare_readings<K: Listed, P: Reader<K>, R: Reader<Count>>(
 {
     let plan = capture.plan();
     check_pile(kept_reader, plan, counts.len(), bits.len())?;
+    // (Local rows, which take no memory; the readings answer how much of them they fill.)
     let mut fresh = [0u8; MAX_LENGTH];
     let fresh_len = read_list(fresh_reader, plan, values, soft, bits, &mut fresh)?;
     let mut kept = [0u8; MAX_LENGTH];

@@ -83,6 +83,7 @@ fn write_codeword_places(plan: &Plan, data: &[u8], places: &mut [usize])
     requires room { trues (codeword (marks_of plan.now) (bits «data».now)) ≤ length places.old }
     ensures { let word = codeword (marks_of plan.now) (bits «data».now) in places.new ≡ places_of word ++ drop (trues word) places.old }
 {
+    // (A local row, which takes no memory.)
     let mut word = [0u8; MAX_LENGTH];
     encode(plan, data, &mut word).unwrap();
     write_places(&word[0..plan.length()], places);

@@ -61,7 +61,11 @@ fn walk_over_three_symbols(rt: HostRuntime) -> Result<(), Fail> {
 fn walk_as_an_iterator(rt: HostRuntime) -> Result<(), Fail> {
     let mut walk = Walk::new(3)?;
     assert_eq!(rt; walk.next(), Some(node(2, 0, 0)));
-    assert_eq!(rt; walk.count(), 3);
+    let mut last = None;
+    for node in walk {
+        last = Some(node);
+    }
+    assert_eq!(rt; last, Some(node(1, 2, 1)));
     Ok(())
 }
 

@@ -43,6 +43,7 @@ pub fn encode(plan: &Plan, data: &[u8], out: &mut [u8]) -> Result<usize, Refusal
     if out.len() < marks.len() {
         return Err(Refusal::Output);
     }
+    // (A local row, which takes no memory; the slice carries the length.)
     let mut room = [false; MAX_LENGTH];
     let word = &mut room[0..marks.len()];
     put_codeword(marks, data, word);
@@ -91,6 +92,7 @@ pub fn extract(plan: &Plan, word: &[u8], out: &mut [u8]) -> Result<usize, Refusa
     ensures returns { IfOk result (λ n. (ds : List Bool) → length ds ≡ trues (marks_of plan.now) → bits word.now ≡ codeword (marks_of plan.now) ds → take n out.new ≡ bytes ds) }
 {
     plan.check_word(word)?;
+    // (A local row, which takes no memory; the slice carries the length.)
     let mut room = [false; MAX_LENGTH];
     let labels = &mut room[0..word.len()];
     put_bits(word, labels);

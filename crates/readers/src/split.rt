@@ -114,7 +114,7 @@ fn compare_halves<K: Soft>(question: &Question<'_, K>, half: usize, out: &mut [K
     compare_onto(out, right, question.turns);
 }
 
-// Compares each of the first values with its partner.
+// Compares each of the first values with its partner. (By place, since the row that is read is the one that is written.)
 fn compare_onto<K: Soft>(values: &mut [K], partners: &[K], turns: u32)
     requires few { turns ≤ 12 }
     requires paired { length partners.now ≤ length values.old }
@@ -138,7 +138,8 @@ fn join_halves<K: Soft>(question: &Question<'_, K>, half: usize, left_bits: &[bo
     join_into(out, left, right, left_bits, question.turns);
 }
 
-// Joins each of the right values with its left partner, under the left bit.
+// Joins each of the right values with its left partner, under the left bit. (By place: a chain over three rows, whose closure
+// asks that both values fit, is no plainer.)
 fn join_into<K: Soft>(out: &mut [K], left: &[K], right: &[K], left_bits: &[bool], turns: u32)
     requires few { turns ≤ 11 }
     requires room { length out.old ≡ length right.now }

@@ -10,7 +10,7 @@ use std::marker::Model;
 // The longest stored form: 4 bytes in front, 4097 for runs of one mark each after an empty one, 2 for each count.
 const LONGEST: usize = 12293;
 
-// A stored form, or its beginning.
+// A stored form, or its beginning. (An array with its length: no memory is taken.)
 #[derive(Drop)]
 pub struct Form {
     bytes: [u8; LONGEST],

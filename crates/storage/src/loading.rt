@@ -11,7 +11,7 @@ use polar::plan::MAX_LENGTH;
 use polar::refusal::Refusal;
 use std::marker::Model;
 
-// What was loaded: the marks, as many counts, and the exponent.
+// What was loaded: the marks, as many counts, and the exponent. (Arrays with their length: no memory is taken.)
 #[derive(Drop)]
 pub struct Block {
     marks: [bool; MAX_LENGTH],

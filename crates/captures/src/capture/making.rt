@@ -39,6 +39,7 @@ impl Capture {
         if exponent > MAX_EXPONENT {
             return Err(Refusal::Range);
         }
+        // (Local rows, which take no memory; the slices carry the length.)
         let mut word = [0u8; MAX_LENGTH];
         encode(plan, data, &mut word)?;
         let mut room = [0i16; MAX_LENGTH];

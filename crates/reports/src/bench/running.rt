@@ -76,6 +76,7 @@ impl Bench {
         ensures light { LightHistoriesPrintTrue top_count (captured self.old.capture) (text_on self.new.page) }
         ensures kept { self.new.capture ≡ self.old.capture }
     {
+        // (A local row, which takes no memory.)
         let mut out = [0u8; MAX_LENGTH];
         let reader = bench_readers();
         let active = read_front(

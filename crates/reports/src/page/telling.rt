@@ -61,6 +61,7 @@ fn question(capture: &Capture, data: &[u8]) -> Result<(u32, Option<usize>), Refu
     ensures few { OnOk result (length «data».now ≤ 4096) }
 {
     let plan = capture.plan();
+    // (A local row, which takes no memory.)
     let mut room = [0u8; MAX_LENGTH];
     encode(plan, data, &mut room)?;
     let word = &room[0..plan.length()];
