@@ -1,3 +1,4 @@
+pub mod Fronts
 pub mod Keeping
 pub mod Light
 pub mod CaptureReadings

@@ -36,7 +36,7 @@ pub fn read_capture<K: Spoken, R: Reader<K>>(
     let marks = plan.marks();
     let (values, places) = soft.split_at_mut(marks.len());
     put_values(capture.counts(), values);
-    // A list is read by the same three lines; a function for them would take as many parameters and repeat the contract.
+    // A list's reading ends in the same steps; a function for them would take as many parameters and repeat the contract.
     let (word, work) = bits.split_at_mut(marks.len());
     let question = Question {
         marks,

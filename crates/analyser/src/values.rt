@@ -27,7 +27,7 @@ impl Spoken for Count {
     ghost fitting = { Prim.search rules };
 
     fn of_count(count: i16) -> Count {
-        Count(i32::from(count))
+        Count::from(count)
     }
 }
 

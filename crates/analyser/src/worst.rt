@@ -14,6 +14,7 @@ use polar::bits::count_ones;
 use polar::code::encode;
 use polar::plan::{MAX_LENGTH, Plan};
 use polar::refusal::Refusal;
+use polar::rows::write_front;
 use polar::tree::children;
 
 // The right branches on the way to a leaf of a block of `len` symbols.
@@ -71,9 +72,7 @@ fn write_places(word: &[u8], places: &mut [usize])
     ensures { places.new ≡ places_of (bits word.now) ++ drop (trues (bits word.now)) places.old }
 {
     let ones = word.iter().enumerate().filter(|(_, bit)| **bit == 1);
-    for (next, (i, _)) in ones.enumerate() {
-        places[next] = i;
-    }
+    write_front(places, ones.map(|(i, _)| i));
 }
 
 // The same of the codeword of `data`.

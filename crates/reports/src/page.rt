@@ -4,6 +4,9 @@ use crate::text::Text;
 mod lines;
 pub mod telling;
 
+// The bytes of the longest report, and some more.
+pub const PAGE_ROOM: usize = 4300;
+
 // A page with the text of the report that was told last.
 #[derive(Drop)]
 pub struct Page {

@@ -3,12 +3,10 @@ ghost use Rattle.std.specs.Prelude.{◌≡◌, ◌+◌, ◌<◌, ◌≤◌, [], 
 ghost use Rattle.polar.specs.Bytes.{bit, bits};
 ghost use Rattle.reports.specs.Text.{line, digit, digits};
 
+use crate::page::PAGE_ROOM;
 use itoa::Buffer;
 use std::alloc::{AllocError, Global};
 use std::marker::Model;
-
-// The bytes of the longest report, and some more.
-pub(crate) const PAGE_ROOM: usize = 4300;
 
 // Text in room that is reserved once, so that no later call needs memory. A contract sees its bytes.
 #[derive(Drop)]
@@ -18,12 +16,13 @@ pub struct Text {
 
 impl Model for Text {
     ghost use Rattle.std.specs.Prelude.{ℕ, ◌≤◌, List, vec_capacity};
+    ghost use Rattle.reports.specs.declared.page.TheConstants.{PAGE_ROOM};
 
     ghost Value = { List ℕ };
 
     ghost view = { λ t. t.bytes.items };
 
-    ghost invariant = { λ t. 4300 ≤ vec_capacity t.bytes };
+    ghost invariant = { λ t. PAGE_ROOM ≤ vec_capacity t.bytes };
 }
 
 impl Text {
@@ -48,7 +47,7 @@ impl Text {
 
     // Adds a byte.
     fn push(&mut self, byte: u8)
-        requires { length self.old < 4300 }
+        requires { length self.old < PAGE_ROOM }
         ensures { self.new ≡ self.old ++ byte ∷ [] }
     {
         self.bytes.push_reserved(byte);
@@ -56,7 +55,7 @@ impl Text {
 
     // Adds bytes.
     pub(crate) fn put(&mut self, bytes: &[u8])
-        requires { length self.old + length bytes.now ≤ 4300 }
+        requires { length self.old + length bytes.now ≤ PAGE_ROOM }
         ensures { self.new ≡ self.old ++ bytes.now }
     {
         self.bytes.extend_from_slice(bytes).unwrap();
@@ -64,7 +63,7 @@ impl Text {
 
     // Adds a number in decimal.
     pub(crate) fn put_decimal(&mut self, number: usize)
-        requires { length self.old + 20 ≤ 4300 }
+        requires { length self.old + 20 ≤ PAGE_ROOM }
         ensures value { self.new ≡ self.old ++ decimal number }
         ensures few { length self.new ≤ length self.old + 20 }
     {
@@ -74,7 +73,7 @@ impl Text {
 
     // Adds bits as the characters 0 and 1.
     pub(crate) fn put_digits(&mut self, word: &[u8])
-        requires { length self.old + length word.now ≤ 4300 }
+        requires { length self.old + length word.now ≤ PAGE_ROOM }
         ensures { self.new ≡ self.old ++ digits (bits word.now) }
     {
         for b in word {
@@ -84,7 +83,7 @@ impl Text {
 
     // Adds a line that ends in a number.
     pub(crate) fn put_number_line(&mut self, head: &[u8], number: usize)
-        requires { length self.old + length head.now + 21 ≤ 4300 }
+        requires { length self.old + length head.now + 21 ≤ PAGE_ROOM }
         ensures value { self.new ≡ self.old ++ line (head.now ++ decimal number) }
         ensures few { length self.new ≤ length self.old + length head.now + 21 }
     {

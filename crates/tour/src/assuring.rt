@@ -62,8 +62,7 @@ fn show_kept<R: Reader<Count>>(
 ) -> anyhow::Result<()> {
     let mut data = [0u8; 6];
     match read_counts(pile, capture, counts, bits, &mut data) {
-        Ok(k) if k <= 6 => println!(rt; "  read as   {}", Bits(&data[0..k]))?,
-        Ok(_) => {}
+        Ok(k) => println!(rt; "  read as   {}", Bits(data.get(..k).unwrap_or(&[])))?,
         Err(refusal) => println!(rt; "  {refusal}")?,
     }
     Ok(())

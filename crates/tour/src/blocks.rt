@@ -1,4 +1,4 @@
-// The steps of the tour.
+// The steps of the tour that show plans, walks and codewords.
 use crate::show::Bits;
 use polar::code::{encode, extract};
 use polar::frame::Node;

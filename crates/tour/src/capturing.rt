@@ -1,12 +1,11 @@
 // A capture of the 6-symbol block: made, edited, reopened for a year and read.
 use crate::assuring::show_assurance;
+use crate::reading::WORD;
 use crate::show::{Bits, Hex, Spaced};
 use captures::capture::Capture;
 use captures::edit::Edit;
 use polar::plan::Plan;
 use polar::refusal::Refusal;
-
-const WORD: [u8; 6] = [0, 1, 1, 0, 1, 1];
 
 // The working days of a year.
 const DAYS: u32 = 250;
@@ -94,9 +93,7 @@ fn reopen(rt: &HostRuntime, capture: &mut Capture) -> anyhow::Result<()> {
 fn keep_for_a_year(capture: &mut Capture, levels: &mut [f32], bytes: &mut [u8]) -> u32 {
     let mut done = 0u32;
     for _ in 0..DAYS {
-        if reopen_once(capture, levels, bytes).is_ok() {
-            done = done.saturating_add(1);
-        }
+        done = done.saturating_add(u32::from(reopen_once(capture, levels, bytes).is_ok()));
     }
     done
 }

@@ -12,7 +12,7 @@ use soft::erasure::Erasure;
 use soft::kind::{Listed, Soft};
 
 // The codeword of the data 11 on this plan.
-const WORD: [u8; 6] = [0, 1, 1, 0, 1, 1];
+pub(crate) const WORD: [u8; 6] = [0, 1, 1, 0, 1, 1];
 
 pub(crate) fn show_readings(rt: &HostRuntime, plan: &Plan) -> anyhow::Result<()> {
     let limit = 127 * plan.weight();
@@ -32,7 +32,7 @@ pub(crate) fn show_readings(rt: &HostRuntime, plan: &Plan) -> anyhow::Result<()>
 
 // A block of counts through three piles.
 fn show_counts(rt: &HostRuntime, plan: &Plan, counts: &[i16; 6]) -> anyhow::Result<()> {
-    let values = counts.map(|count| Count(i32::from(count)));
+    let values = counts.map(Count::from);
     println!(rt; "  counts    {}", Spaced(counts))?;
     show_shortfall(rt, plan, &values)?;
     let exhaustive = Exhaustive::new(4)?;
@@ -89,8 +89,7 @@ fn read_through<K: Listed, R: Reader<K>>(
     bits.resize(bits_need, false)?;
     let mut data = [0u8; 6];
     match read_list(pile, plan, values, &mut soft, &mut bits, &mut data) {
-        Ok(k) if k <= 6 => println!(rt; "    {name}: {}", Bits(&data[0..k]))?,
-        Ok(_) => {}
+        Ok(k) => println!(rt; "    {name}: {}", Bits(data.get(..k).unwrap_or(&[])))?,
         Err(refusal) => println!(rt; "    {name}: {refusal}")?,
     }
     Ok(())

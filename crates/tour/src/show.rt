@@ -15,7 +15,7 @@ impl<T: Copy + Into<u8>> fmt::Display for Bits<'_, T> {
     }
 }
 
-// Counts, levels or places, with a space between them.
+// Counts, levels, places or bytes, with a space between them.
 #[derive(Drop)]
 pub struct Spaced<'a, T>(pub &'a [T]);
 

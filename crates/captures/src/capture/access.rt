@@ -46,8 +46,7 @@ impl Capture {
     {
         match edit {
             Edit::Erase => u32::from(TOP),
-            Edit::Count(_) => 2 * u32::from(TOP),
-            Edit::Level(_) => 2 * u32::from(TOP),
+            Edit::Count(_) | Edit::Level(_) => 2 * u32::from(TOP),
             Edit::Weaken(n) => u32::from(n),
         }
     }

@@ -16,6 +16,7 @@ impl Capture {
         ensures { ShortfallTold top_count (captured self.now) word.now result }
     {
         self.plan.check_word(word)?;
+        // (A rule of the project: the sum goes over counts and bits with their index, as it is defined.)
         let counts = self.counts();
         let mut sum = 0;
         for (i, count) in counts.iter().enumerate() {

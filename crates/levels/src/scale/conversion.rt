@@ -35,7 +35,7 @@ impl Scale {
         Ok(self.nearest_count(level))
     }
 
-    // The count of a level; 0 for what is not a number.
+    // The count of a level; 0 for what is not a number, so that it may be asked of any level of a row.
     pub(super) fn nearest_count(&self, level: f32) -> i16
         ensures { result ≡ nearest_or_zero largest_count (exponent_of self.now.step) level }
     {

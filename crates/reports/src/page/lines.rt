@@ -5,13 +5,14 @@ ghost use Rattle.polar.specs.Plans.{marks_of};
 ghost use Rattle.reports.specs.Text.{line, digits};
 ghost use Rattle.reports.specs.Report.{plan_lines, told_place, refusal_report};
 
+use crate::page::PAGE_ROOM;
 use crate::text::Text;
 use polar::plan::Plan;
 use polar::refusal::Refusal;
 
 // The figures of a plan.
 pub(crate) fn put_plan(text: &mut Text, plan: &Plan)
-    requires { length text.old + 84 ≤ 4300 }
+    requires { length text.old + 84 ≤ PAGE_ROOM }
     ensures value { text.new ≡ text.old ++ plan_lines (marks_of plan.now) }
     ensures few { length text.new ≤ length text.old + 84 }
 {
@@ -22,7 +23,7 @@ pub(crate) fn put_plan(text: &mut Text, plan: &Plan)
 
 // The data that were read.
 pub(crate) fn put_data(text: &mut Text, data: &[u8])
-    requires { length text.old + length «data».now + 6 ≤ 4300 }
+    requires { length text.old + length «data».now + 6 ≤ PAGE_ROOM }
     ensures value { text.new ≡ text.old ++ line (codes "data " ++ digits (bits «data».now)) }
     ensures few { length text.new ≤ length text.old + length «data».now + 6 }
 {
@@ -33,7 +34,7 @@ pub(crate) fn put_data(text: &mut Text, data: &[u8])
 
 // How far a capture falls short, and of what bound.
 pub(crate) fn put_shortfall(text: &mut Text, shortfall: usize, bound: usize)
-    requires { length text.old + 55 ≤ 4300 }
+    requires { length text.old + 55 ≤ PAGE_ROOM }
     ensures value { text.new ≡ text.old ++ line (codes "shortfall " ++ decimal shortfall ++ codes " of " ++ decimal bound) }
     ensures few { length text.new ≤ length text.old + 55 }
 {
@@ -44,7 +45,7 @@ pub(crate) fn put_shortfall(text: &mut Text, shortfall: usize, bound: usize)
 
 // The first contradicted place, or none.
 pub(crate) fn put_against(text: &mut Text, against: Option<usize>)
-    requires { length text.old + 29 ≤ 4300 }
+    requires { length text.old + 29 ≤ PAGE_ROOM }
     ensures { text.new ≡ text.old ++ line (codes "against " ++ told_place against) }
 {
     match against {
@@ -53,9 +54,10 @@ pub(crate) fn put_against(text: &mut Text, against: Option<usize>)
     }
 }
 
-// A refusal, with its place where it has one.
+// A refusal, with its place where it has one: the text that `Display` gives it, and a line end. (Put by hand: `write!` to a String may want
+// memory, and a page takes none.)
 pub(crate) fn put_refusal(text: &mut Text, refusal: Refusal)
-    requires { length text.old + 53 ≤ 4300 }
+    requires { length text.old + 53 ≤ PAGE_ROOM }
     ensures { text.new ≡ text.old ++ refusal_report refusal }
 {
     text.put(b"refused ");
