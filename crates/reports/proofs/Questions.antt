@@ -1,12 +1,12 @@
 -- The word that encoding leaves, and the questions about it. Assumes nothing.
-use Rattle.std.proofs.Common.{◌≡◌, ℕ, ◌-◌, ◌≤◌, Bool, ◌&&◌, eqb, List, length, take, drop, None, Ok, sym, ◌∙◌, subst, arith}
+use Rattle.std.proofs.Common.{◌≡◌, ℕ, ◌≤◌, Bool, ◌&&◌, eqb, List, length, None, sym, ◌∙◌, subst, arith}
 use lib.ListN.{length-map}
 use Rattle.std.proofs.lemmas.Bool.{eq-eqb, eqb-true, and_parts}
 use Rattle.polar.specs.declared.refusal.Refusal.TheVariants.{Data}
 use Rattle.polar.specs.Words.{trues}
-use Rattle.polar.specs.Bytes.{byte, all_bits, bits, bytes}
+use Rattle.polar.specs.Bytes.{byte, all_bits, bytes}
 use Rattle.polar.specs.Codewords.{codeword}
-use Rattle.polar.specs.Plans.{encode_due, Encoded}
+use Rattle.polar.specs.Plans.{encode_due}
 use Rattle.polar.proofs.Dues.{unless_none, unless_passes}
 use Rattle.polar.proofs.Sums.{trues_bound}
 use Rattle.polar.proofs.Codes.{length_codeword}

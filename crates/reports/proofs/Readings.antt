@@ -8,7 +8,6 @@ use Rattle.polar.specs.Words.{trues}
 use Rattle.polar.specs.Bytes.{bits, bytes}
 use Rattle.polar.proofs.Codes.{bits_bytes}
 use Rattle.polar.proofs.Dues.{some_due}
-use Rattle.polar.proofs.PlanFacts.{sized}
 use Rattle.soft.specs.declared.count.Count.{Count}
 use Rattle.soft.specs.Counts.{counted, count_kind}
 use Rattle.readers.specs.Readings.{Reading, ReaderRules}
@@ -19,7 +18,7 @@ use Rattle.captures.specs.Captures.{Captured}
 use Rattle.captures.specs.Calls.{Answer}
 use Rattle.captures.specs.Tops.{top_count}
 use Rattle.captures.specs.Views.{captured}
-use Rattle.analyser.specs.Assurance.{Planned, LightHistoriesReadTrue}
+use Rattle.analyser.specs.Assurance.{LightHistoriesReadTrue}
 use Rattle.analyser.specs.Comparing.{data_kept}
 use Rattle.analyser.specs.Reading.{CaptureRead, values_of}
 use Rattle.analyser.proofs.CaptureReadings.{posed_capture}
