@@ -25,10 +25,8 @@ fn worked_bytes(rt: HostRuntime) -> Result<(), Fail> {
 
 // What a load of these bytes is refused with, into a place that stays as it was.
 fn refused(capture: &mut Capture, bytes: &[u8]) -> Option<(u8, Option<usize>)> {
-    match capture.load(bytes) {
-        Ok(()) => None,
-        Err(refusal) => Some((refusal.number(), refusal.place())),
-    }
+    let refusal = capture.load(bytes).err()?;
+    Some((refusal.number(), refusal.place()))
 }
 
 #[test]

@@ -39,13 +39,10 @@ fn add_row(leaf: usize, word: &mut [u8]) {
 // Writes the word of the data: the sum of the rows of the active leaves whose datum is 1.
 fn write_word(marks: &[u8], data: &[u8], word: &mut [u8]) {
     word.fill(0);
-    let mut next = 0usize;
+    let mut rest = data.iter();
     for (leaf, mark) in marks.iter().enumerate() {
-        if *mark == 1 {
-            if data.get(next) == Some(&1) {
-                add_row(leaf, word);
-            }
-            next = next.wrapping_add(1);
+        if *mark == 1 && rest.next().is_some_and(|datum| *datum == 1) {
+            add_row(leaf, word);
         }
     }
 }

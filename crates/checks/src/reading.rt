@@ -30,11 +30,11 @@ fn data_of<R: Reader<Count>>(pile: &R, plan: &Plan, counts: &[i16]) -> Result<u3
         &mut bits,
         &mut data,
     )?;
-    let mut number = 1u32;
-    for d in data.iter().take(k) {
-        number = number.wrapping_mul(2).wrapping_add(u32::from(*d));
-    }
-    Ok(number)
+    Ok(
+        data.iter().take(k).fold(1u32, |number, d| {
+            number.wrapping_mul(2).wrapping_add(u32::from(*d))
+        }),
+    )
 }
 
 #[test]

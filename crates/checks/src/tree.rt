@@ -87,9 +87,7 @@ fn moves(len: usize) -> Option<(u32, Node)> {
     let mut walk = Walk::new(len).ok()?;
     let mut count = 0u32;
     for _ in 0..10_000 {
-        if walk.advance().is_some() {
-            count = count.saturating_add(1);
-        }
+        count = count.saturating_add(u32::from(walk.advance().is_some()));
     }
     Some((count, walk.node()))
 }
