@@ -93,7 +93,8 @@ impl Cursor<'_> {
         requires { length marks.old ≤ 4096 }
         ensures { Fills (read_by (later_runs_at (length marks.old) true (length marks.old)) self.old) result marks.new self.new }
     {
-        // The place is counted: where a loop moves on to the rest of a slice, the proof loses what it wrote in front.
+        // (The place is counted: after a loop that moves on to the rest of a slice, the proof no longer knows what was written
+        // in front; a recursion on the rest would go 4096 deep.)
         let mut from = 0;
         let mut mark = true;
         while from < marks.len() {
