@@ -122,7 +122,7 @@ impl Cursor<'_> {
         ensures { Fills (read_by (counts_at top_count (length counts.old)) self.old) result counts.new self.new }
     {
         for count in counts.iter_mut() {
-            *count = decoded(self.field(0, 2 * TOP as u32)?);
+            *count = decoded(self.field(0, 2 * u32::from(TOP))?);
         }
         Ok(())
     }
