@@ -24,7 +24,7 @@ pub fn check_length(len: usize) -> Result<(), Refusal>
 
 // A plan is one mark for each leaf of a block of 1 to 4096 symbols, `true` for an active leaf and `false` for a frozen one,
 // at least one of them active. Room for the longest plan is reserved once, so that no later call needs memory.
-// (No `impl Model`: contracts see a plan's marks by `marks_of`, which the theorems of every crate above cite.)
+// (No `impl Model`: contracts see a plan's marks by `marks_of`, which contracts and theorems of crates above cite.)
 #[derive(Drop)]
 pub struct Plan {
     marks: Vec<bool>,
