@@ -9,6 +9,7 @@ use Rattle.polar.specs.Labels.{unlabel}
 use Rattle.polar.specs.Codewords.{tree_of, codeword, data_of}
 use Rattle.polar.specs.Refusals.{Outcome, refused_if, refused_unless, length_due}
 
+-- what contracts see of a plan
 abbrev pub marks_of : Plan → List Bool
 marks_of plan = vec_items plan.marks
 

@@ -1,12 +1,12 @@
-// Bits as bytes 0 and 1, which is how callers pass and receive them. The loops test or write every place
-// with no way out in between, so that they run many places at a time.
+// Bits as bytes 0 and 1, which is how callers pass and receive them.
 ghost use Rattle.std.specs.Prelude.{◌≡◌, ◌≤◌, ◌++◌, length, drop};
 ghost use Rattle.polar.specs.Words.{trues};
 ghost use Rattle.polar.specs.Bytes.{all_bits, bits, bytes};
 
 use crate::rows::{write_all, write_front};
 
-// Whether each byte is 0 or 1.
+// Whether each byte is 0 or 1. (`fold` tests every byte with no way out in between, so that many are tested at a time;
+// `all` would stop at the first that is neither.)
 pub fn are_bits(src: &[u8]) -> bool
     ensures { result ≡ all_bits src.now }
 {

@@ -57,7 +57,7 @@ fn write_active(marks: &[bool], labels: &[bool], out: &mut [u8])
     requires room { trues marks.now ≤ length out.old }
     ensures { out.new ≡ bytes (collect marks.now labels.now) ++ drop (trues marks.now) out.old }
 {
-    // (Counted by hand: where `write_front` takes a filtered chain, `extract` takes a fifth more time.)
+    // (Counted by hand: where `write_front` takes a filtered chain, `extract` of 4096 symbols takes a fifth more time.)
     let mut next = 0;
     for (i, mark) in marks.iter().enumerate() {
         if *mark {

@@ -9,6 +9,7 @@ use crate::tree::children;
 
 // Adds the right part of a label, which begins at `mid`, to its left part, place by place.
 // The last bit of a longer left part passes through.
+// (By place, since the two parts may overlap where `mid` is small.)
 pub fn add_right(bits: &mut [bool], mid: usize)
     ensures { bits.new ≡ plus bits.old (drop mid bits.old) }
 {

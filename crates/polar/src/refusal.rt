@@ -62,10 +62,10 @@ impl Refusal {
         ensures { result ≡ place_of self }
     {
         match self {
-            Refusal::InputEnds(place) => Some(place),
-            Refusal::NumberForm(place) => Some(place),
-            Refusal::FieldRule(place) => Some(place),
-            Refusal::BytesRemain(place) => Some(place),
+            Refusal::InputEnds(place)
+            | Refusal::NumberForm(place)
+            | Refusal::FieldRule(place)
+            | Refusal::BytesRemain(place) => Some(place),
             _ => None,
         }
     }

@@ -4,6 +4,7 @@ ghost use Rattle.std.specs.Iterator.{IsFinite};
 ghost use Rattle.std.specs.Iterator.Runs.{EachRunFrom, WholeRun};
 
 // Writes the items in order into the front of `out`, whose tail stays, and answers how many they are.
+// (The one loop that counts its place, on behalf of all rows: the proof knows nothing of what an adapter of `iter_mut` wrote.)
 pub fn write_front<T: Copy, I: Iterator<Item = T> + Drop>(out: &mut [T], mut items: I) -> usize
     requires can { I.can_next items }
     requires ends { IsFinite (I.remaining items) }

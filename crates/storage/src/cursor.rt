@@ -93,7 +93,8 @@ impl Cursor<'_> {
         requires { length marks.old ≤ 4096 }
         ensures { Fills (read_by (later_runs_at (length marks.old) true (length marks.old)) self.old) result marks.new self.new }
     {
-        // The place is counted: where a loop moves on to the rest of a slice, the proof loses what it wrote in front.
+        // (The place is counted: after a loop that moves on to the rest of a slice, the proof no longer knows what was written
+        // in front; a recursion on the rest would go 4096 deep.)
         let mut from = 0;
         let mut mark = true;
         while from < marks.len() {
@@ -121,7 +122,7 @@ impl Cursor<'_> {
         ensures { Fills (read_by (counts_at top_count (length counts.old)) self.old) result counts.new self.new }
     {
         for count in counts.iter_mut() {
-            *count = decoded(self.field(0, 2 * TOP as u32)?);
+            *count = decoded(self.field(0, 2 * u32::from(TOP))?);
         }
         Ok(())
     }

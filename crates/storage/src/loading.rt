@@ -59,7 +59,7 @@ fn read(bytes: &[u8]) -> Result<Block, Refusal>
     let mut input = Cursor::new(bytes);
     input.field(VERSION, VERSION)?;
     let len = input.field(1, MAX_LENGTH as u32)? as usize;
-    let exponent = input.field(0, MAX_EXPONENT as u32)? as u8;
+    let exponent = input.field(0, u32::from(MAX_EXPONENT))? as u8;
     let mut marks = [false; MAX_LENGTH];
     let mut counts = [0; MAX_LENGTH];
     input.marks(&mut marks[..len])?;

@@ -7,10 +7,11 @@ ghost use Rattle.storage.specs.Calls.{Stores};
 use crate::form::Form;
 use crate::{MAX_EXPONENT, TOP};
 use polar::bits::count_ones;
-use polar::plan::MAX_LENGTH;
+use polar::plan::check_length;
 use polar::refusal::Refusal;
 
-// Whether no count is larger in size than the top.
+// Whether no count is larger in size than the top. (`fold` tests every count with no way out in between, so that many are
+// tested at a time; `all` would stop at the first that is larger.)
 fn are_small(counts: &[i16]) -> bool
     ensures { result ≡ all_small top_count counts.now }
 {
@@ -26,9 +27,7 @@ pub fn store(marks: &[bool], counts: &[i16], exponent: u8, out: &mut [u8]) -> Re
     ensures stores { Stores top_count (content_of marks.now counts.now exponent) out.old result out.new }
     ensures loads { LoadsWhatIsStored top_count }
 {
-    if marks.is_empty() || marks.len() > MAX_LENGTH {
-        return Err(Refusal::Length);
-    }
+    check_length(marks.len())?;
     if count_ones(marks) == 0 {
         return Err(Refusal::Marks);
     }

@@ -4,7 +4,7 @@ ghost use Rattle.polar.specs.Words.{trues};
 ghost use Rattle.polar.specs.Plans.{marks_of, Filled, MarksSet};
 
 use crate::bits::{are_bits, count_ones, put_bits};
-use crate::plan::{MAX_LENGTH, Plan};
+use crate::plan::{MAX_LENGTH, Plan, check_length};
 use crate::refusal::Refusal;
 use std::alloc::{AllocError, Global};
 
@@ -22,9 +22,7 @@ impl Plan {
     pub fn fill(&mut self, len: usize, marks: &[u8]) -> Result<(), Refusal>
         ensures { Filled self.old len marks.now result self.new }
     {
-        if len == 0 || len > MAX_LENGTH {
-            return Err(Refusal::Length);
-        }
+        check_length(len)?;
         if marks.len() != len || !are_bits(marks) {
             return Err(Refusal::Marks);
         }
@@ -39,9 +37,7 @@ impl Plan {
     pub fn set_marks(&mut self, marks: &[bool]) -> Result<(), Refusal>
         ensures { MarksSet self.old marks.now result self.new }
     {
-        if marks.is_empty() || marks.len() > MAX_LENGTH {
-            return Err(Refusal::Length);
-        }
+        check_length(marks.len())?;
         let active = count_ones(marks);
         if active == 0 {
             return Err(Refusal::Marks);

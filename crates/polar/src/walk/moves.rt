@@ -4,7 +4,7 @@ ghost use Rattle.std.specs.Iterator.{YieldsFirst, item_count};
 ghost use Rattle.polar.specs.Walks.{current, remaining, Begun, WalkMade, Moved, ReadingOrder};
 
 use crate::frame::{Frame, Node};
-use crate::plan::MAX_LENGTH;
+use crate::plan::check_length;
 use crate::refusal::Refusal;
 use crate::walk::{LEVELS, Walk};
 
@@ -13,9 +13,7 @@ impl Walk {
     pub fn new(len: usize) -> Result<Walk, Refusal>
         ensures { WalkMade len result }
     {
-        if len == 0 || len > MAX_LENGTH {
-            return Err(Refusal::Length);
-        }
+        check_length(len)?;
         Ok(Walk::at_root(len))
     }
 

@@ -24,7 +24,7 @@ returns-in_err-len c =
 pub returns-in_err-exponent : goal.returns-in_err-exponent
 returns-in_err-exponent c =
     refused_exit c.from_residual-in_err-exponent.result c.from_residual-in_err-exponent.ensures.1
-    (no_exponent top_count _ (first (goal.at.returns-in_err-exponent c).In_ok-field) c.in_ok-len.ensures.reads c.in_err-exponent.ensures.reads)
+    (no_exponent top_count _ (first (goal.at.returns-in_err-exponent c).In_ok-field) c.in_ok-len.ensures.reads (rw c.from.ensures at c.in_err-exponent.ensures.reads))
 
 -- the front of a row that is read into
 long : {X : Type 0} (n : ℕ) (x : X) → n ≤ 4096 → length (take n (replicate 4096 x)) ≡ n
@@ -45,7 +45,7 @@ returns-in_err-marks c =
     let d = c.field-3.new.self in
     let read = ap (λ n. marks_at n d.at (rest d)) (sym (long c.in_ok-len.field-0 false c.in_ok-len.ensures.within.1)) ∙ c.in_err-marks.ensures in
     refused_exit c.from_residual-in_err-marks.result c.from_residual-in_err-marks.ensures.1
-    (no_marks top_count _ (first (goal.at.returns-in_err-marks c).In_ok-field) c.in_ok-len.ensures.reads c.in_ok-exponent.ensures.reads read)
+    (no_marks top_count _ (first (goal.at.returns-in_err-marks c).In_ok-field) c.in_ok-len.ensures.reads (rw c.from.ensures at c.in_ok-exponent.ensures.reads) read)
 
 pub returns-in_err-counts : goal.returns-in_err-counts
 returns-in_err-counts c =
@@ -53,11 +53,11 @@ returns-in_err-counts c =
     let d = c.marks.new.self in
     let read = ap (λ n. counts_at top_count n d.at (rest d)) (sym (long c.in_ok-len.field-0 (pos 0) c.in_ok-len.ensures.within.1)) ∙ c.in_err-counts.ensures in
     refused_exit c.from_residual-in_err-counts.result c.from_residual-in_err-counts.ensures.1
-    (no_counts top_count _ (first at.In_ok-field) c.in_ok-len.ensures.reads c.in_ok-exponent.ensures.reads (marked at.In_ok-marks) read)
+    (no_counts top_count _ (first at.In_ok-field) c.in_ok-len.ensures.reads (rw c.from.ensures at c.in_ok-exponent.ensures.reads) (marked at.In_ok-marks) read)
 
 -- all fields were read
 all : (c : In_ok-counts) → outcome top_count c.args.bytes.now ≡ ended (got (content_of c.marks.new.marks c.counts.new.counts c.in_ok-exponent.field-0) c.counts.new.self.at (rest c.counts.new.self))
-all c = outcome_is top_count _ (first (goal.at.In_ok-counts c).In_ok-field) c.in_ok-len.ensures.reads c.in_ok-exponent.ensures.reads (marked (goal.at.In_ok-counts c).In_ok-marks) (counted c)
+all c = outcome_is top_count _ (first (goal.at.In_ok-counts c).In_ok-field) c.in_ok-len.ensures.reads (rw c.from.ensures at c.in_ok-exponent.ensures.reads) (marked (goal.at.In_ok-counts c).In_ok-marks) (counted c)
 
 pub returns-in_err-end : goal.returns-in_err-end
 returns-in_err-end c =

@@ -12,8 +12,8 @@ none_due top c room s h = grind (arith, nat_tests)
 
 sound : (c : After-push_content) → Sound top_count (content_of c.args.marks.now c.args.counts.now c.args.exponent)
 sound c = record {
-  some = grind (arith, nat_tests, c.if-is_empty.false, c.is_empty.ensures);
-  short = c.if-marks-gt-MAX_LENGTH.false;
+  some = c.in_ok-check_length.ensures.within.0;
+  short = c.in_ok-check_length.ensures.within.1;
   active = omega arith;
   paired = c.if-counts-marks.false;
   small = sym c.are_small.ensures ∙ c.if-not-are_small.false;
