@@ -1,4 +1,4 @@
-use Rattle.std.proofs.Common.{◌≡◌, ℕ, zero, suc, ◌+◌, ◌*◌, ◌<◌, ◌≤◌, Bool, T, ℤ, pos, ◌+ℤ◌, nat_abs, fold, List, [], ◌∷◌, length, map, get_or, Option, None, Some, sym, refl, ap, ◌∙◌, subst, add-mul, one-mul, add-one, arith, rules, to_z, of_z, w32, map-id}
+use Rattle.std.proofs.Common.{◌≡◌, ℕ, zero, suc, ◌+◌, ◌*◌, ◌<◌, ◌≤◌, Bool, T, ℤ, pos, ◌+ℤ◌, nat_abs, fold, List, [], ◌∷◌, length, map, get_or, Option, sym, ap, ◌∙◌, subst, add-mul, one-mul, add-one, arith, rules, w32, map-id}
 use borrow.Author.Differences.{ints}
 use Rattle.std.proofs.lemmas.Int.{to_z-of_z}
 use Rattle.std.specs.List.{zip, AllByRecursion}
