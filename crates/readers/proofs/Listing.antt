@@ -1,12 +1,12 @@
 -- The loops over a list, and what reading one promises. Assumes nothing.
-use Rattle.std.proofs.Common.{◌≡◌, ℕ, suc, fold, nat_lt, ◌+◌, ◌*◌, ◌<◌, ◌≤◌, Bool, true, false, cond, not, ◌&&◌, T, leb, List, [], ◌∷◌, ◌++◌, length, get_or, take, drop, IfOk, Some, None, Ok, Err, Option, Result, sym, refl, ap, ◌∙◌, subst, mul-one, arith}
+use Rattle.std.proofs.Common.{◌≡◌, ℕ, suc, fold, nat_lt, ◌+◌, ◌*◌, ◌<◌, ◌≤◌, Bool, true, false, cond, not, ◌&&◌, T, eqb, leb, List, [], ◌∷◌, ◌++◌, length, get_or, take, drop, IfOk, Some, None, Ok, Err, Option, Result, sym, refl, ap, ◌∙◌, subst, mul-one, arith}
 use Rattle.std.specs.Option.{option_map}
 use Rattle.std.proofs.lemmas.List.{drop_more}
-use Rattle.std.proofs.lemmas.Bool.{and_parts, leb-true, cond-true, false≢true}
+use Rattle.std.proofs.lemmas.Bool.{and_parts, eqb-true, leb-true, cond-true, false≢true}
 use Rattle.std.proofs.lemmas.Bool.Decides.{nat_tests}
 use Rattle.std.specs.List.{position, prefix_len, sum_by, zip}
 use Rattle.std.proofs.lemmas.List.Sums.{sum_by-cons}
-use Rattle.polar.specs.declared.refusal.Refusal.TheVariants.{WorkingRoom, NotTaken}
+use Rattle.polar.specs.declared.refusal.Refusal.TheVariants.{WorkingRoom, NotTaken, ItemCount}
 use Rattle.soft.specs.Kind.{Kind, limit}
 use Rattle.polar.specs.Words.{trues}
 use Rattle.polar.specs.Bytes.{bit, bits, bytes}
@@ -18,11 +18,11 @@ use Rattle.polar.specs.declared.plan.Plan.{Plan}
 use Rattle.polar.specs.declared.refusal.Refusal.{Refusal}
 use Rattle.polar.specs.Plans.{marks_of, TakenOut}
 use Rattle.polar.proofs.PlanFacts.{sized}
-use Rattle.polar.proofs.Dues.{unless_none}
+use Rattle.polar.proofs.Dues.{some_due, unless_none}
 use Rattle.polar.proofs.Parts.{label_codeword}
 use Rattle.polar.proofs.Codes.{taken_out}
 use Rattle.readers.specs.Readings.{Reading, ReaderRules, Posed, AllFit, most_places, total}
-use Rattle.readers.specs.Blocks.{first_unfit, pile_due, NearReadsTrue}
+use Rattle.readers.specs.Blocks.{first_unfit, unfit_due, list_due, pile_due, NearReadsTrue}
 
 -- ---- options of a place
 
@@ -92,12 +92,22 @@ module _ {K : Type 0} (kind : Kind K) where
       let a = and_parts (leb (reading.soft_need (length ms)) most_places) (leb (reading.bit_need (length ms)) most_places) ab.0 in
       (taken.0, leb-true _ _ a.0, leb-true _ _ a.1, leb-true _ _ ab.1, leb-true _ _ abc.1)
 
-  -- a list of values that was looked at, as it is given to a reader
-  pub posed_list : (plan : Plan) (values : List K) (marks : List Bool) → marks ≡ marks_of plan → length values ≡ length marks → first_unfit kind values ≡ None
-      → Posed kind (marks_of plan) 0 values
-  posed_list plan values marks is same none =
+  -- what an accepted list has: as many values as symbols, each of which fits
+  pub list_facts : (unfit : ℕ → Refusal) (ms : List Bool) (values : List K) → list_due kind unfit ms values None ≡ None → (length values ≡ length ms) × AllFit kind 0 values
+  list_facts unfit ms values none =
+      let some = unless_none (eqb (length values) (length ms)) ItemCount _ none in
+      (eqb-true _ _ some.0, all_fit_from values (by (first_unfit kind values) some.1))
+    where
+      by : (o : Option ℕ) → unfit_due unfit o None ≡ None → o ≡ None
+      by None h = refl
+      by (Some place) h = absurd (some_due (unfit place) h)
+
+  -- an accepted list, as it is given to a reader
+  pub posed_list : (unfit : ℕ → Refusal) (plan : Plan) (values : List K) → list_due kind unfit (marks_of plan) values None ≡ None → Posed kind (marks_of plan) 0 values
+  posed_list unfit plan values none =
       let size = sized plan in
-      record { some = size.0; short = rw mul-one size.1; same = same ∙ ap length is; fits = all_fit_from values none }
+      let facts = list_facts unfit (marks_of plan) values none in
+      record { some = size.0; short = rw mul-one size.1; same = facts.0; fits = facts.1 }
 
   -- a codeword of the plan that is near is what the pile answers, and its data are what is written
   pub near_reads_true : (reading : Reading K) → ReaderRules kind reading → (ms : List Bool) (values : List K) (out tail : List ℕ) (n : ℕ)

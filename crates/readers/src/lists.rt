@@ -5,7 +5,7 @@ ghost use Rattle.polar.specs.Plans.{marks_of};
 ghost use Rattle.polar.specs.Refusals.{Outcome};
 ghost use Rattle.polar.specs.Bytes.{bit};
 ghost use Rattle.readers.specs.Readings.{AllFit, total};
-ghost use Rattle.readers.specs.Blocks.{first_unfit, pile_due, rows, ListRead, WorkingRowsFree, NearReadsTrue, ShortfallTold};
+ghost use Rattle.readers.specs.Blocks.{first_unfit, list_due, pile_due, rows, ListRead, WorkingRowsFree, NearReadsTrue, ShortfallTold};
 
 use crate::question::Question;
 use crate::reader::Reader;
@@ -41,6 +41,19 @@ fn find_misfit<K: Listed>(values: &[K]) -> Option<usize>
     values.iter().position(|v| !v.fits())
 }
 
+// Whether the values are a list for a block of the plan: as many as its symbols, each of which fits.
+fn check_list<K: Listed>(plan: &Plan, values: &[K]) -> Result<(), Refusal>
+    ensures { Outcome (list_due K.Soft.kind K.Listed.unfit (marks_of plan.now) values.now None) result (λ _. Unit {0}) (Unit {0}) }
+{
+    if values.len() != plan.length() {
+        return Err(Refusal::ItemCount);
+    }
+    match first_misfit(values) {
+        Some(place) => Err(K::unfit(place)),
+        None => Ok(()),
+    }
+}
+
 // Whether a pile takes the plan, and finds its working places in buffers of these lengths, with one of each sort
 // for each symbol beside them.
 pub fn check_pile<K: Soft, R: Reader<K>>(
@@ -67,7 +80,7 @@ pub fn check_pile<K: Soft, R: Reader<K>>(
 }
 
 // Reads a list of values through a pile: writes the data, a byte for each, into the front of `out` and answers how many they are.
-// `soft` and `bits` are lent to work in.
+// `soft` and `bits` are lent to work in. (One by one, since the refusals and the clauses speak of the length of each.)
 pub fn read_list<K: Listed, R: Reader<K>>(
     reader: &R,
     plan: &Plan,
@@ -80,17 +93,12 @@ pub fn read_list<K: Listed, R: Reader<K>>(
     ensures free { WorkingRowsFree (rows soft.old bits.old out.old) (rows soft.new bits.new out.new) }
     ensures near { IfOk result (λ k. NearReadsTrue K.Soft.kind (marks_of plan.now) values.now (take k out.new)) }
 {
-    let marks = plan.marks();
-    if values.len() != marks.len() {
-        return Err(Refusal::ItemCount);
-    }
-    if let Some(place) = first_misfit(values) {
-        return Err(K::unfit(place));
-    }
+    check_list(plan, values)?;
     check_pile(reader, plan, soft.len(), bits.len())?;
     if out.len() < plan.active() {
         return Err(Refusal::Output);
     }
+    let marks = plan.marks();
     let (word, work) = bits.split_at_mut(marks.len());
     let question = Question {
         marks,
@@ -105,12 +113,7 @@ pub fn read_list<K: Listed, R: Reader<K>>(
 pub fn shortfall<K: Listed>(plan: &Plan, values: &[K], word: &[u8]) -> Result<u32, Refusal>
     ensures { ShortfallTold K.Soft.kind K.Listed.unfit (marks_of plan.now) values.now word.now result }
 {
-    if values.len() != plan.length() {
-        return Err(Refusal::ItemCount);
-    }
-    if let Some(place) = first_misfit(values) {
-        return Err(K::unfit(place));
-    }
+    check_list(plan, values)?;
     plan.check_word(word)?;
     Ok(sum_shortfalls(values, word))
 }

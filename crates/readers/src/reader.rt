@@ -24,7 +24,7 @@ pub trait Reader<K: Soft> {
         requires { len ≤ 4096 }
         ensures { result ≡ (reading self.now).bit_need len };
 
-    // Writes the answer into `out`, working in `soft` and `bits`.
+    // Writes the answer into `out`, working in `soft` and `bits`. (Lent one by one, since the clauses speak of the length of each.)
     fn read(&self, question: &Question<'_, K>, soft: &mut [K], bits: &mut [bool], out: &mut [bool])
         requires { Ready (reading self.now) question.now.marks.now (length soft.old) (length bits.old) (length out.old) }
         ensures { out.new ≡ (reading self.now).answer question.now.marks.now question.now.turns question.now.values.now };

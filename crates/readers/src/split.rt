@@ -7,6 +7,7 @@ ghost use Rattle.readers.specs.SplitReading.{split_reading, split_answer, split_
 ghost use Rattle.readers.specs.Halves.{Halving};
 ghost use Rattle.readers.specs.SplitRules.{split_rules};
 
+use crate::lists::MOST_PLACES;
 use crate::question::Question;
 use crate::reader::Reader;
 use polar::labels::add_right;
@@ -14,7 +15,7 @@ use polar::tree::children;
 use soft::kind::Soft;
 
 // The most places that a reading may work in, and one more, at which sums stop.
-pub const PLACES_STOP: usize = 65_537;
+pub const PLACES_STOP: usize = MOST_PLACES + 1;
 
 // Takes every node. What the reader below does not take is read left first, then right.
 #[derive(Clone, Copy)]
@@ -114,7 +115,7 @@ fn compare_halves<K: Soft>(question: &Question<'_, K>, half: usize, out: &mut [K
     compare_onto(out, right, question.turns);
 }
 
-// Compares each of the first values with its partner. (By place, since the row that is read is the one that is written.)
+// Compares each of the first values with its partner. (By place: nothing is known of what an adapter of `iter_mut` wrote.)
 fn compare_onto<K: Soft>(values: &mut [K], partners: &[K], turns: u32)
     requires few { turns ≤ 12 }
     requires paired { length partners.now ≤ length values.old }

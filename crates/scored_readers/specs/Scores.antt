@@ -1,8 +1,7 @@
 -- Scores of words: a near label outscores every other. Assumes nothing.
-use Rattle.std.specs.Prelude.{◌≡◌, ℕ, ◌+◌, ◌*◌, ◌^◌, ◌<◌, ◌≤◌, Bool, true, false, List, [], ◌∷◌, length, drop, pos, ◌+ℤ◌, ◌-ℤ◌, ◌≤ℤ◌, slice_index_or}
+use Rattle.std.specs.Prelude.{◌≡◌, ℕ, ◌*◌, ◌^◌, ◌<◌, ◌≤◌, Bool, true, false, List, [], ◌∷◌, length, pos, ◌+ℤ◌, ◌-ℤ◌, ◌≤ℤ◌}
 use Rattle.std.proofs.Common.{sym, ap, ◌∙◌, ⊎_elim, arith, mul-zero, mul-suc, mul-le-mul, mul-le-mul_left, mul-le-mul_right, mul_left_comm}
 use Rattle.std.proofs.lemmas.Int.{ints}
-use Rattle.std.proofs.lemmas.List.{drop_more}
 use Rattle.std.proofs.lemmas.Bool.{cases_lt}
 use Rattle.soft.specs.Kind.{Kind, Score, AllFair, limit}
 use Rattle.polar.specs.Words.{plus, trues}
@@ -14,14 +13,6 @@ use Rattle.polar.proofs.Distance.{distance}
 use Rattle.readers.specs.Readings.{Posed, Near, AllFit, total}
 use Rattle.readers.specs.Node.{turns_most}
 use Rattle.scored_readers.specs.ExhaustiveReading.{word_score}
-
--- ---- the steps of a sum of scores
-
-pub score_more : {K : Type 0} (score : Score K) (turns : ℕ) (values : List K) (word : List Bool) (i : ℕ) (v : K) → i < length values → i < length word → v ≡ slice_index_or values i v
-    → word_score score turns (drop i values) (drop i word) ≡ score v (slice_index_or word i false) turns +ℤ word_score score turns (drop (i + 1) values) (drop (i + 1) word)
-score_more score turns values word i v p q read =
-    let front : drop i values ≡ v ∷ drop (i + 1) values = drop_more values i v p ∙ ap (λ x. x ∷ drop (i + 1) values) (sym read) in
-    rw (front, drop_more word i false q)
 
 -- no sum passes what 32 bits hold
 pub score_room : (unit len turns i : ℕ) → unit ≤ 2047 → len * 2 ^ turns ≤ 4096 → i ≤ len → i * (unit * 2 ^ turns) ≤ 8384512

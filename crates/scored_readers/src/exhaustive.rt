@@ -122,6 +122,7 @@ fn put_word(marks: &[bool], number: u32, word: &mut [bool])
 }
 
 // Writes a number's digits at the active leaves, the lowest at the last, and 0 at the frozen ones.
+// (A loop: the digits are written from the last leaf on, with the rest of the number carried along; a chain is no plainer.)
 fn put_leaves(marks: &[bool], number: u32, labels: &mut [bool])
     requires { length labels.old ≡ length marks.now }
     ensures { labels.new ≡ spread marks.now (digits (trues marks.now) number) }
@@ -142,9 +143,10 @@ pub(crate) fn score_word<K: Scored>(question: &Question<'_, K>, word: &[bool]) -
     requires { length word.now ≡ length question.now.marks.now }
     ensures { result ≡ word_score K.Scored.scoring question.now.turns question.now.values.now word.now }
 {
-    let mut sum = 0;
-    for (i, v) in question.values.iter().enumerate() {
-        sum += v.score(word[i], question.turns);
-    }
-    sum
+    question
+        .values
+        .iter()
+        .zip(word)
+        .map(|(v, b)| v.score(*b, question.turns))
+        .sum()
 }

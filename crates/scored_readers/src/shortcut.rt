@@ -95,23 +95,16 @@ fn decide_even<K: Scored>(question: &Question<'_, K>, out: &mut [bool])
     }
 }
 
-// The first place whose two scores lie closest. (Of `min_by_key` no clause says that it gives the first of several.)
+// The first place whose two scores lie closest.
 fn find_weakest<K: Scored>(question: &Question<'_, K>) -> usize
     ensures value { result ≡ weakest K.Scored.scoring question.now.turns question.now.values.now }
     ensures within { result < length question.now.values.now }
 {
     let turns = question.turns;
     let values = question.values;
-    let mut place = 0;
-    let mut narrow = width(values[0], turns);
-    for i in 1..values.len() {
-        let next = width(values[i], turns);
-        if next < narrow {
-            place = i;
-            narrow = next;
-        }
-    }
-    place
+    (0..values.len())
+        .min_by_key(|i| width(values[*i], turns))
+        .unwrap()
 }
 
 // How far apart a value's two scores lie.

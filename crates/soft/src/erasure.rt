@@ -7,6 +7,7 @@ ghost use Rattle.soft.specs.ErasuresLemmas.{erasure_rules, erasure_fair};
 use super::kind::{Listed, Scored, Soft};
 use polar::refusal::Refusal;
 
+// (A sort of value of its own with three cases: `Unknown` is received like the others, and no bit is missing.)
 #[derive(Clone, Copy, PartialEq, Eq, Debug)]
 pub enum Erasure {
     Zero,
