@@ -16,7 +16,8 @@ pub mod storing;
 pub const TOP: u16 = storage::TOP;
 
 // A coded block as an analyser keeps it. A count is a whole number from -127 to 127, sure of bit 0 far above zero and of bit 1 far below.
-// Room for the longest block is reserved once, so that no later call needs memory.
+// Room for the longest block is reserved once, so that no later call needs memory. (Two rows, as the plan is lent out alone; no `impl Model`:
+// contracts see a capture by `captured`, which the theorems of crates above cite.)
 #[derive(Drop)]
 pub struct Capture {
     plan: Plan,

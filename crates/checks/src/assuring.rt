@@ -20,7 +20,7 @@ fn make(plan: &mut Plan, capture: &mut Capture, marks: &[u8], data: &[u8]) -> Re
     capture.make(plan, 3, data)
 }
 
-// The first two data that are read by counts.
+// The first two data that are read by counts, and by erasures below: two calls, each tried in its own words. 7 stands where none was written.
 fn by_counts(capture: &Capture) -> Result<(u8, u8), Refusal> {
     let mut soft = [Count(0); 256];
     let mut bits = [false; 256];

@@ -8,7 +8,7 @@ mod making;
 pub mod rows;
 
 // A count c stands for the level c × step. The step is 2^-k for an exponent k from 0 to 6, and the
-// top level is 127 × step; both are exact.
+// top level is 127 × step; both are exact. (No `impl Model`: contracts see a scale by `exponent_of` its step.)
 #[derive(Clone, Copy, Drop)]
 pub struct Scale {
     step: f32,

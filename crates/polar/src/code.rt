@@ -11,7 +11,8 @@ use crate::labels::{transform, untransform};
 use crate::plan::{MAX_LENGTH, Plan};
 use crate::refusal::Refusal;
 
-// Writes the labels of the leaves: the data at the active ones in order, 0 at the frozen ones.
+// Writes the labels of the leaves: the data at the active ones in order, 0 at the frozen ones. (By place: of a chain whose closure takes data as it
+// goes the proof knows nothing.)
 fn put_leaf_labels(marks: &[bool], data: &[u8], labels: &mut [bool])
     requires { length labels.old ≡ length marks.now }
     ensures { labels.new ≡ spread marks.now (bits «data».now) }

@@ -8,6 +8,7 @@ use super::kind::{Listed, Scored, Soft};
 use polar::refusal::Refusal;
 
 // The most that a count is in size at 0 turns.
+// (Its own here, as in `levels` and `storage`: these crates do not know one another.)
 pub const TOP: i32 = 127;
 
 #[derive(Clone, Copy, PartialEq, Eq, Debug)]

@@ -7,7 +7,7 @@ ghost use Rattle.storage.specs.Reading.{got, mapped, ended, byte_at, number_at, 
 use crate::TOP;
 use polar::refusal::Refusal;
 
-// A place in the input.
+// A place in the input. (The bytes and the place, not the bytes that are left: a refusal tells the place.)
 #[derive(Drop)]
 pub struct Cursor<'a> {
     bytes: &'a [u8],

@@ -10,6 +10,7 @@ pub mod storing;
 const VERSION: u32 = 1;
 
 // The largest size of a count.
+// (Its own here, as in `soft` and `levels`: these crates do not know one another.)
 pub const TOP: u16 = 127;
 
 // The largest exponent.

@@ -21,7 +21,7 @@ fn are_small(counts: &[i16]) -> bool
 }
 
 // Writes the stored form of marks, counts and exponent into the front of `out`, whose tail stays, and answers its length;
-// a refusal leaves `out` as it was.
+// a refusal leaves `out` as it was. (The three are lent one by one, from whatever holds them; `Block` is for what is loaded.)
 #[tactic(auto, using(crate::proofs::RoundTrip::loads_what_is_stored))]
 pub fn store(marks: &[bool], counts: &[i16], exponent: u8, out: &mut [u8]) -> Result<usize, Refusal>
     ensures stores { Stores top_count (content_of marks.now counts.now exponent) out.old result out.new }

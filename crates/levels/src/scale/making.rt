@@ -5,6 +5,7 @@ use super::Scale;
 use polar::refusal::Refusal;
 
 // The largest exponent.
+// (Its own here, as the top below is: `levels`, `soft` and `storage` do not know one another.)
 const MAX_EXPONENT: u8 = 6;
 
 // The largest count.

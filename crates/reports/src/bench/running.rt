@@ -104,7 +104,7 @@ fn bench_readers() -> Split<Shortcut<Exhaustive>>
     }
 }
 
-// Reads a capture by counts. The data stand in the front of the output.
+// Reads a capture by counts. The data stand in the front of the output. (A call of its own for these clauses, which the longest row allows.)
 fn read_front<R: Reader<Count>>(
     reader: &R,
     capture: &Capture,
