@@ -1,11 +1,10 @@
 -- The loops over a list, and what reading one promises. Assumes nothing.
 use Rattle.std.proofs.Common.{◌≡◌, ℕ, suc, fold, nat_lt, ◌+◌, ◌*◌, ◌<◌, ◌≤◌, Bool, true, false, cond, not, ◌&&◌, T, eqb, leb, List, [], ◌∷◌, ◌++◌, length, get_or, take, drop, IfOk, Some, None, Ok, Err, Option, Result, sym, refl, ap, ◌∙◌, subst, mul-one, arith}
 use Rattle.std.specs.Option.{option_map}
-use Rattle.std.proofs.lemmas.List.{drop_more}
+use Rattle.std.proofs.lemmas.List.{drop_more, drop_all}
 use Rattle.std.proofs.lemmas.Bool.{and_parts, eqb-true, leb-true, cond-true, false≢true}
 use Rattle.std.proofs.lemmas.Bool.Decides.{nat_tests}
-use Rattle.std.specs.List.{position, prefix_len, sum_by, zip}
-use Rattle.std.proofs.lemmas.List.Sums.{sum_by-cons}
+use Rattle.std.specs.List.{position, prefix_len}
 use Rattle.polar.specs.declared.refusal.Refusal.TheVariants.{WorkingRoom, NotTaken, ItemCount}
 use Rattle.soft.specs.Kind.{Kind, limit}
 use Rattle.polar.specs.Words.{trues}
@@ -74,11 +73,13 @@ module _ {K : Type 0} (kind : Kind K) where
       by true all others = ap (option_map suc) (others all)
       by false all others = absurd (false≢true (sym (unfit_stays values) ∙ all))
 
-  -- the shortfall of all values from a word's bits, in the words of the library
-  pub total_is : (values : List K) (word : List ℕ) → total kind 0 values (bits word) ≡ sum_by (λ p. kind.shortfall p.0 (bit p.1) 0) (zip values word)
-  total_is [] word = refl
-  total_is (v ∷ values) [] = refl
-  total_is (v ∷ values) (b ∷ word) = ap (λ n. kind.shortfall v (bit b) 0 + n) (total_is values word) ∙ sym (sum_by-cons _ (v, b) (zip values word))
+  -- the shortfall of one value and one bit more
+  pub total_more : (values : List K) (word : List ℕ) (i : ℕ) (v : K) → i < length values → i < length word → v ≡ get_or values i v
+      → total kind 0 (drop i values) (bits (drop i word)) ≡ kind.shortfall v (bit (get_or word i 0)) 0 + total kind 0 (drop (i + 1) values) (bits (drop (i + 1) word))
+  total_more values word i v p q read = rw (rest values i v p read, drop_more word i 0 q)
+
+  pub total_none : (values : List K) (word : List ℕ) (i : ℕ) → length values ≤ i → total kind 0 (drop i values) (bits (drop i word)) ≡ 0
+  total_none values word i past = ap (λ vs. total kind 0 vs (bits (drop i word))) (drop_all i values past)
 
   -- what an accepted pile has: it takes the marks, and its places are there
   pub pile_facts : (reading : Reading K) (ms : List Bool) (soft_places bit_places : ℕ) → pile_due reading ms soft_places bit_places None ≡ None

@@ -1,9 +1,8 @@
 // Reading a list of soft values of any kind through any pile of readers.
-ghost use Rattle.std.specs.Prelude.{◌≡◌, ◌+◌, ◌*◌, ◌≤◌, true, not, ◌&&◌, T, fold, position, sum_by, zip, length, take, IfOk, None};
-ghost use Rattle.std.specs.List.{All};
+ghost use Rattle.std.specs.Prelude.{◌≡◌, ◌+◌, ◌*◌, ◌≤◌, true, not, ◌&&◌, fold, position, length, take, IfOk, None};
 ghost use Rattle.polar.specs.Plans.{marks_of};
 ghost use Rattle.polar.specs.Refusals.{Outcome};
-ghost use Rattle.polar.specs.Bytes.{bit};
+ghost use Rattle.polar.specs.Bytes.{bits};
 ghost use Rattle.readers.specs.Readings.{AllFit, total};
 ghost use Rattle.readers.specs.Blocks.{first_unfit, list_due, pile_due, rows, ListRead, WorkingRowsFree, NearReadsTrue, ShortfallTold};
 
@@ -118,16 +117,16 @@ pub fn shortfall<K: Listed>(plan: &Plan, values: &[K], word: &[u8]) -> Result<u3
     Ok(sum_shortfalls(values, word))
 }
 
-// The sum of the values' shortfalls from the bits.
+// The sum of the values' shortfalls from the bits. (A rule of the project: a loop over values and bits with their index.)
 fn sum_shortfalls<K: Listed>(values: &[K], word: &[u8]) -> u32
     requires short { length values.now ≤ 4096 }
     requires same { length word.now ≡ length values.now }
-    requires fits { All (λ v. T (K.Soft.kind.fitting v 0)) values.now }
-    ensures { result ≡ sum_by (λ p. K.Soft.kind.shortfall p.0 (bit p.1) 0) (zip values.now word.now) }
+    requires fits { AllFit K.Soft.kind 0 values.now }
+    ensures { result ≡ total K.Soft.kind 0 values.now (bits word.now) }
 {
-    values
-        .iter()
-        .zip(word)
-        .map(|(v, b)| v.shortfall(*b == 1))
-        .sum()
+    let mut sum = 0;
+    for (i, v) in values.iter().enumerate() {
+        sum += v.shortfall(word[i] == 1);
+    }
+    sum
 }
