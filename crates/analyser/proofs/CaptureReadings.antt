@@ -1,11 +1,12 @@
 -- A capture is a list of values that fit, as it is given to a reader. Assumes nothing.
-use Rattle.std.proofs.Common.{◌≡◌, ℕ, suc, cond, List, [], ◌∷◌, map, length, ℤ, Some, None, sym, refl, ap, ◌∙◌}
+use Rattle.std.proofs.Common.{◌≡◌, ℕ, suc, cond, List, [], ◌∷◌, map, length, ℤ, Some, None, sym, refl, ap, ◌∙◌, mul-one}
 use lib.ListN.{length-map}
 use Rattle.std.specs.Option.{option_map}
 use Rattle.soft.specs.Kind.{Kind}
 use Rattle.readers.specs.Readings.{Posed}
 use Rattle.readers.specs.Blocks.{first_unfit}
-use Rattle.readers.proofs.Listing.{posed_list}
+use Rattle.readers.proofs.Listing.{all_fit_from}
+use Rattle.polar.proofs.PlanFacts.{sized}
 use Rattle.levels.specs.Rows.{AllWithin}
 use Rattle.captures.specs.declared.capture.Capture.{Capture}
 use Rattle.captures.specs.Tops.{top_count}
@@ -27,5 +28,5 @@ paired s = sym s.counts.ok.0 ∙ s.same ∙ s.plan.marks.ok.0
 pub posed_capture : {K : Type 0} (kind : Kind K) (spoken : ℤ → K) → AllSpeak top_count kind spoken → (s : Capture) → Posed kind (captured s).marks_row 0 (values_of spoken (captured s))
 posed_capture kind spoken law s =
     let counts = (captured s).count_row in
-    posed_list kind s.plan (values_of spoken (captured s)) (captured s).marks_row refl (length-map counts spoken ∙ paired s)
-    (all_speak top_count kind spoken law counts (all_from_within top_count counts s.within))
+    let size = sized s.plan in
+    record { some = size.0; short = rw mul-one size.1; same = length-map counts spoken ∙ paired s; fits = all_fit_from kind (values_of spoken (captured s)) (all_speak top_count kind spoken law counts (all_from_within top_count counts s.within)) }

@@ -1,10 +1,10 @@
 -- Comparing: which refusal is due, and what the two readings say. Assumes nothing.
-use Rattle.std.proofs.Common.{◌≡◌, ℕ, Bool, true, eqb, ltb, List, length, take, drop, Some, None, Ok, Err, Option, Result, sym, refl, ap, ◌∙◌, arith}
+use Rattle.std.proofs.Common.{◌≡◌, ℕ, Bool, true, false, eqb, ltb, List, length, take, drop, Some, None, Ok, Err, Option, Result, sym, refl, ap, ◌∙◌, arith}
 use Rattle.std.specs.Result.{IsErrAnd}
-use Rattle.std.proofs.lemmas.Bool.{le-ltb, eqb-true}
+use Rattle.std.proofs.lemmas.Bool.{le-ltb}
 use Rattle.polar.specs.declared.refusal.Refusal.{Refusal}
 use Rattle.polar.specs.declared.refusal.Refusal.TheVariants.{WorkingRoom, Output, NotTaken, ItemCount}
-use Rattle.polar.specs.Refusals.{Outcome}
+use Rattle.polar.specs.Refusals.{Outcome, refused_unless}
 use Rattle.polar.specs.Words.{trues}
 use Rattle.polar.specs.Bytes.{bits, bytes}
 use Rattle.polar.specs.Codewords.{tree_of}
@@ -49,17 +49,15 @@ raised_never s = cannot_be_raised top_count (captured s).marks_row (planned s)
 pub output_never : (ms : List Bool) → Planned ms → output_due ms 4096 ≡ None
 output_never ms plan = if_passes (ltb 4096 (trues ms)) Output None (le-ltb 4096 (trues ms) (omega (arith, trues_bound ms, plan.short)))
 
--- what an accepted list is: as many values as symbols, each of which fits
-pub list_facts : {K : Type 0} (kind : Kind K) (unfit : ℕ → Refusal) (ms : List Bool) (values : List K) (later : Option Refusal) → list_due kind unfit ms values later ≡ None
-    → (length values ≡ length ms) × (first_unfit kind values ≡ None) × (later ≡ None)
-list_facts kind unfit ms values later none =
-    let size = unless_none (eqb (length values) (length ms)) ItemCount _ none in
-    let fit = fits (first_unfit kind values) size.1 in
-    (eqb-true (length values) (length ms) size.0, fit.0, fit.1)
+-- a list that is accepted is so whatever is looked for next, and nothing that is looked for next refuses
+pub list_passes : {K : Type 0} (kind : Kind K) (unfit : ℕ → Refusal) (ms : List Bool) (values : List K) (later : Option Refusal) → list_due kind unfit ms values later ≡ None
+    → (list_due kind unfit ms values None ≡ None) × (later ≡ None)
+list_passes kind unfit ms values later none = by (eqb (length values) (length ms)) (first_unfit kind values) none
   where
-    fits : (o : Option ℕ) → unfit_due unfit o later ≡ None → (o ≡ None) × (later ≡ None)
-    fits None h = (refl, h)
-    fits (Some place) h = absurd (some_due (unfit place) h)
+    by : (same : Bool) (o : Option ℕ) → refused_unless same ItemCount (unfit_due unfit o later) ≡ None → (refused_unless same ItemCount (unfit_due unfit o None) ≡ None) × (later ≡ None)
+    by true None h = (refl, h)
+    by true (Some place) h = absurd (some_due (unfit place) h)
+    by false o h = absurd (some_due ItemCount h)
 
 -- the front of an output is the data of the pile's answer
 pub front_data : {K : Type 0} (kind : Kind K) (reading : Reading K) → ReaderRules kind reading → (ms : List Bool) (values : List K) (before after : List ℕ) (k : ℕ)

@@ -1,4 +1,4 @@
-use Rattle.std.proofs.Common.{◌≡◌, List, ℕ, length, take, replicate, nat_abs, None, Some, sym, refl, ap, ◌∙◌, subst}
+use Rattle.std.proofs.Common.{◌≡◌, List, ℕ, length, take, replicate, nat_abs, None, Some, sym, ap, ◌∙◌, subst}
 use native.Mathlib.Nat.{sub-zero}
 use Rattle.std.proofs.lemmas.Bool.{le-leb}
 use Rattle.std.proofs.lemmas.Bool.Decides.{Decides-eqb}
@@ -13,7 +13,7 @@ use Rattle.analyser.specs.Assurance.{LightHistoriesReadTrue}
 use Rattle.analyser.specs.Reading.{values_of}
 use Rattle.analyser.specs.Comparing.{data_read, data_kept, lent}
 use Rattle.analyser.proofs.CaptureReadings.{posed_capture}
-use Rattle.analyser.proofs.Comparisons.{refused, planned, pile_passes, output_never, list_facts, front_data, same_data}
+use Rattle.analyser.proofs.Comparisons.{refused, planned, pile_passes, output_never, list_passes, front_data, same_data}
 use Rattle.analyser.proofs.comparing.compare_readings.Goals as goal
 use Rattle.analyser.proofs.comparing.compare_readings.Goals.{In_ok-check_pile, After-eq}
 use Rattle.analyser.proofs.comparing.compare_readings.Given.{Over}
@@ -69,10 +69,10 @@ returns-clause-value g c =
     let bits_len = length c.args.bits.now in
     let list : list_due kind g.K.Listed.unfit ms values (pile_due fresh ms soft_len bits_len (output_due ms 4096)) ≡ None = rw (sym c.plan-plan.ensures) c.in_ok-fresh_len.ensures.value.0 in
     let read : DataWritten fresh ms values (replicate 4096 0) c.read_list.new.out c.in_ok-fresh_len.fresh_len = rw (sym c.plan-plan.ensures) c.in_ok-fresh_len.ensures.value.1 in
-    let facts = list_facts kind g.K.Listed.unfit ms values _ list in
+    let passes = list_passes kind g.K.Listed.unfit ms values _ list in
     let fresh_data : take c.in_ok-fresh_len.fresh_len c.read_list.new.out ≡ bytes (data_read fresh ms values) =
     front_data kind fresh (g.met.P.Reader.rules c.args.fresh_reader.now) ms values (replicate 4096 0) c.read_list.new.out c.in_ok-fresh_len.fresh_len
-    (pile_facts kind fresh ms soft_len bits_len (ap (pile_due fresh ms soft_len bits_len) (sym (output_never ms (planned s))) ∙ facts.2)).0 (posed_list kind s.plan values ms refl facts.0 facts.1) read in
+    (pile_facts kind fresh ms soft_len bits_len (ap (pile_due fresh ms soft_len bits_len) (sym (output_never ms (planned s))) ∙ passes.1)).0 (posed_list kind g.K.Listed.unfit s.plan values passes.0) read in
     let from_front = λ (n : ℕ) (row : List ℕ). ap (λ k. take k row) (sub-zero n) in
     let fresh_front = from_front c.in_ok-fresh_len.fresh_len c.read_list.new.out ∙ fresh_data in
     let kept_front = from_front c.in_ok-kept_len.kept_len c.read_counts.new.out ∙ kept_data g c in
