@@ -1,5 +1,5 @@
 -- A page by its text, and the report of a capture on it. Assumes nothing.
-use Rattle.std.specs.Prelude.{◌≡◌, ℕ, Bool, ◌&&◌, List, length, None, Option, ◌==◌}
+use Rattle.std.specs.Prelude.{◌≡◌, ℕ, Bool, ◌&&◌, List, length, None, vec_items, Option, ◌==◌}
 use Rattle.polar.specs.declared.refusal.Refusal.{Refusal}
 use Rattle.polar.specs.declared.refusal.Refusal.TheVariants.{Data}
 use Rattle.polar.specs.Refusals.{Outcome, refused_unless}
@@ -12,7 +12,7 @@ use Rattle.reports.specs.declared.page.Page.{Page}
 use Rattle.reports.specs.Report.{report}
 
 abbrev pub text_on : Page → List ℕ
-text_on page = page.text
+text_on page = vec_items page.text
 
 -- telling of a capture: as many data as active leaves, each 0 or 1
 abbrev pub tell_due : Captured → List ℕ → Option Refusal

@@ -1,5 +1,5 @@
 // The lines of a report.
-ghost use Rattle.std.specs.Prelude.{◌≡◌, ◌+◌, ◌≤◌, ◌++◌, length, codes, decimal};
+ghost use Rattle.std.specs.Prelude.{◌≡◌, ◌+◌, ◌≤◌, ◌++◌, length, codes, decimal, vec_items, vec_len};
 ghost use Rattle.polar.specs.Bytes.{bits};
 ghost use Rattle.polar.specs.Plans.{marks_of};
 ghost use Rattle.reports.specs.Text.{line, digits};
@@ -12,9 +12,9 @@ use polar::refusal::Refusal;
 
 // The figures of a plan.
 pub(crate) fn put_plan(text: &mut Text, plan: &Plan)
-    requires { length text.old + 84 ≤ PAGE_ROOM }
-    ensures value { text.new ≡ text.old ++ plan_lines (marks_of plan.now) }
-    ensures few { length text.new ≤ length text.old + 84 }
+    requires { vec_len text.old + 84 ≤ PAGE_ROOM }
+    ensures value { vec_items text.new ≡ vec_items text.old ++ plan_lines (marks_of plan.now) }
+    ensures few { vec_len text.new ≤ vec_len text.old + 84 }
 {
     text.put_number_line(b"length ", plan.length());
     text.put_number_line(b"active ", plan.active());
@@ -23,9 +23,9 @@ pub(crate) fn put_plan(text: &mut Text, plan: &Plan)
 
 // The data that were read.
 pub(crate) fn put_data(text: &mut Text, data: &[u8])
-    requires { length text.old + length «data».now + 6 ≤ PAGE_ROOM }
-    ensures value { text.new ≡ text.old ++ line (codes "data " ++ digits (bits «data».now)) }
-    ensures few { length text.new ≤ length text.old + length «data».now + 6 }
+    requires { vec_len text.old + length «data».now + 6 ≤ PAGE_ROOM }
+    ensures value { vec_items text.new ≡ vec_items text.old ++ line (codes "data " ++ digits (bits «data».now)) }
+    ensures few { vec_len text.new ≤ vec_len text.old + length «data».now + 6 }
 {
     text.put(b"data ");
     text.put_digits(data);
@@ -34,9 +34,9 @@ pub(crate) fn put_data(text: &mut Text, data: &[u8])
 
 // How far a capture falls short, and of what bound.
 pub(crate) fn put_shortfall(text: &mut Text, shortfall: usize, bound: usize)
-    requires { length text.old + 55 ≤ PAGE_ROOM }
-    ensures value { text.new ≡ text.old ++ line (codes "shortfall " ++ decimal shortfall ++ codes " of " ++ decimal bound) }
-    ensures few { length text.new ≤ length text.old + 55 }
+    requires { vec_len text.old + 55 ≤ PAGE_ROOM }
+    ensures value { vec_items text.new ≡ vec_items text.old ++ line (codes "shortfall " ++ decimal shortfall ++ codes " of " ++ decimal bound) }
+    ensures few { vec_len text.new ≤ vec_len text.old + 55 }
 {
     text.put(b"shortfall ");
     text.put_decimal(shortfall);
@@ -45,8 +45,8 @@ pub(crate) fn put_shortfall(text: &mut Text, shortfall: usize, bound: usize)
 
 // The first contradicted place, or none.
 pub(crate) fn put_against(text: &mut Text, against: Option<usize>)
-    requires { length text.old + 29 ≤ PAGE_ROOM }
-    ensures { text.new ≡ text.old ++ line (codes "against " ++ told_place against) }
+    requires { vec_len text.old + 29 ≤ PAGE_ROOM }
+    ensures { vec_items text.new ≡ vec_items text.old ++ line (codes "against " ++ told_place against) }
 {
     match against {
         Some(place) => text.put_number_line(b"against ", place),
@@ -57,8 +57,8 @@ pub(crate) fn put_against(text: &mut Text, against: Option<usize>)
 // A refusal, with its place where it has one: the text that `Display` gives it, and a line end. (Put by hand: `write!` to a String may want
 // memory, and a page takes none.)
 pub(crate) fn put_refusal(text: &mut Text, refusal: Refusal)
-    requires { length text.old + 53 ≤ PAGE_ROOM }
-    ensures { text.new ≡ text.old ++ refusal_report refusal }
+    requires { vec_len text.old + 53 ≤ PAGE_ROOM }
+    ensures { vec_items text.new ≡ vec_items text.old ++ refusal_report refusal }
 {
     text.put(b"refused ");
     text.put_decimal(usize::from(refusal.number()));

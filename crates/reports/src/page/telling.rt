@@ -1,5 +1,5 @@
 // Writing a report on a page.
-ghost use Rattle.std.specs.Prelude.{◌≡◌, ◌+◌, ◌≤◌, [], ◌++◌, length, IfOk, OnOk};
+ghost use Rattle.std.specs.Prelude.{◌≡◌, ◌+◌, ◌≤◌, [], ◌++◌, length, vec_items, IfOk, OnOk};
 ghost use Rattle.polar.specs.Bytes.{bits};
 ghost use Rattle.polar.specs.Refusals.{Outcome};
 ghost use Rattle.captures.specs.Tops.{top_count};
@@ -78,10 +78,10 @@ fn put_report(
     shortfall: u32,
     against: Option<usize>,
 )
-    requires empty { text.old ≡ [] }
+    requires empty { vec_items text.old ≡ [] }
     requires short { length «data».now ≤ 4096 }
     requires asked { Asked top_count (captured capture.now) (bits «data».now) shortfall against }
-    ensures { text.new ≡ report top_count (captured capture.now) (bits «data».now) }
+    ensures { vec_items text.new ≡ report top_count (captured capture.now) (bits «data».now) }
 {
     put_plan(text, capture.plan());
     put_data(text, data);
