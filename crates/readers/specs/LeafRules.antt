@@ -9,7 +9,7 @@ use Rattle.polar.specs.Codewords.{tree_of}
 use Rattle.polar.proofs.Shapes.{balanced_one}
 use Rattle.readers.specs.Readings.{Posed, Near, ReaderRules, total}
 use Rattle.readers.specs.LeafReading.{leaf_answer, leaf_reading}
-use Rattle.readers.specs.Node.{turns_most}
+use Rattle.readers.specs.Node.{posed_turns}
 
 module _ {K : Type 0} (kind : Kind K) (rules : Rules kind) where
   -- a leaf's label is its own bit, 0 where it is frozen
@@ -34,7 +34,7 @@ module _ {K : Type 0} (kind : Kind K) (rules : Rules kind) where
   near [] turns values word one posed code close = absurd (omega (arith, eqb-true 0 1 one))
   near (m ∷ []) turns [] word one posed code close = absurd (omega (arith, posed.same))
   near (m ∷ []) turns (v ∷ []) word one posed code close =
-      let few = turns_most posed in
+      let few = posed_turns posed in
       let code' : Codeword leaf (m ∷ []) word = subst (λ s. Codeword s (m ∷ []) word) balanced_one code in
       let within : total kind turns (v ∷ []) word < limit kind turns * weight leaf (m ∷ []) = subst (λ s. total kind turns (v ∷ []) word < limit kind turns * weight s (m ∷ [])) balanced_one close in
       decided m turns v word few posed.fits.0 code' within

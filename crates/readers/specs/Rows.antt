@@ -2,8 +2,9 @@
 use Rattle.std.specs.Prelude.{◌≡◌, ℕ, zero, suc, ◌+◌, ◌-◌, ◌<◌, ◌≤◌, Bool, false, List, [], ◌∷◌, ◌++◌, length, get_or, take, drop, set, slice_index_or, slice_set, refl}
 use Rattle.std.proofs.Common.{sym, ap, subst, ◌∙◌, arith, length-take}
 use Rattle.std.proofs.Math.Nat.{sub-zero}
+use borrow.Rule.Slice.PartMut.{post_of}
 use Rattle.std.specs.List.{AllByRecursion}
-use Rattle.std.proofs.lemmas.List.{take_at, drop_at, take_more, take_more_set, get_or_read}
+use Rattle.std.proofs.lemmas.List.{length-append, length-drop, take_rest, length-take-le, take_at, drop_at, take_more, take_more_set, get_or_read}
 use Rattle.std.proofs.lemmas.List.Elements.{All-from_recursion, recursion_from_All, All-take, All-drop}
 use Rattle.polar.specs.Words.{xor, merge, plus}
 use Rattle.polar.specs.Labels.{join}
@@ -21,8 +22,16 @@ pub all_drop : {A : Type 0} (P : A → Type 0) (n : ℕ) (xs : List A) → AllBy
 all_drop P n xs all = recursion_from_All P (drop n xs) (All-drop P n xs (All-from_recursion P xs all))
 
 -- `&s[0..n]` as the checker reads it
+pub length_front : {A : Type 0} (n : ℕ) (xs : List A) → n ≤ length xs → length (take (n - 0) xs) ≡ n
+length_front n xs h = rw sub-zero (length-take-le n xs h)
+
 pub take_front : {A : Type 0} (n : ℕ) (xs ys : List A) → length xs ≡ n → take (n - 0) (xs ++ ys) ≡ xs
 take_front n xs ys long = rw sub-zero (take_at xs ys n long)
+
+-- what is left of a slice `s[n..]` once x is written to `s[0..n]`
+pub written_tail : {A : Type 0} (n : ℕ) (x s : List A) → length x ≡ n → n ≤ length s
+    → length (take (length (x ++ post_of 0 (n - 0) s) - n) (drop n (x ++ post_of 0 (n - 0) s))) + n ≡ length s
+written_tail n x s long h = rw (take_rest, sub-zero) (simp (length-drop, length-append) (omega arith))
 
 -- two children's answers, the right one added to the left one
 pub joined_rows : (n : ℕ) (x y b : List Bool) → length x ≡ n → length y ≤ n → b ≡ plus (x ++ y) (drop n (x ++ y)) → b ≡ join x y

@@ -14,7 +14,7 @@ use Rattle.polar.proofs.Parts.{parts_join, left_codeword, right_codeword, join_c
 use Rattle.readers.specs.Readings.{Reading, ReaderRules, Posed, total}
 use Rattle.readers.specs.SplitReading.{left_values, right_values, split_answer, split_reading}
 use Rattle.readers.specs.Rows.{all_take, all_drop}
-use Rattle.readers.specs.Node.{few_turns}
+use Rattle.readers.specs.Node.{posed_few}
 use Rattle.readers.specs.Totals.{total_join, total_compared, total_joined}
 use Rattle.readers.specs.SplitSteps.{posed_left, posed_right}
 
@@ -122,7 +122,7 @@ module _ {K : Type 0} (kind : Kind K) (rules : Rules kind) (below : Reading K) (
       parts = ap (total kind turns values) (parts_join l r marks long word) ∙ total_join kind h turns values x y is_x.0 (omega (arith, posed.same, long))
 
       few : turns ≤ 11
-      few = few_turns posed two_marks
+      few = posed_few posed two_marks
 
       compared : total kind turns lefts x ≤ total kind turns values word
       compared = rw parts (total_compared kind rules turns (omega (arith, few)) (take h values) (drop h values) x y (all_take _ h values posed.fits) (all_drop _ h values posed.fits) front back)

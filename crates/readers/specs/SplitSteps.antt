@@ -11,7 +11,7 @@ use Rattle.polar.proofs.Merges.{length_merge}
 use Rattle.readers.specs.Readings.{Reading, ReaderRules, Posed, Ready}
 use Rattle.readers.specs.SplitReading.{split_answer, split_reading, left_values, right_values, own_places}
 use Rattle.readers.specs.Halves.{Halving}
-use Rattle.readers.specs.Node.{turns_most, few_turns, right_short}
+use Rattle.readers.specs.Node.{posed_turns, posed_few, right_short}
 use Rattle.readers.specs.Rows.{all_take, all_drop, all_merge, length_joins, all_joins}
 
 module _ {K : Type 0} (kind : Kind K) (rules : Rules kind) (marks : List Bool) (turns : ℕ) (values : List K) (posed : Posed kind marks turns values) (two : 2 ≤ length marks) (half : ℕ) (halved : half ≡ length marks - length marks / 2) where
@@ -21,7 +21,7 @@ module _ {K : Type 0} (kind : Kind K) (rules : Rules kind) (marks : List Bool) (
   pub posed_left : Posed kind (take half marks) turns (left_values kind half values)
   posed_left =
       let long : length (take half marks) ≡ half = length-take-le half marks (omega arith) in
-      let few : turns ≤ 12 = turns_most posed in
+      let few : turns ≤ 12 = posed_turns posed in
       record {
         some = omega arith;
         short = omega (arith, posed.short, mul-le-mul_right {m = length (take half marks)} {n = length marks} (2 ^ turns) (omega arith));
@@ -34,7 +34,7 @@ module _ {K : Type 0} (kind : Kind K) (rules : Rules kind) (marks : List Bool) (
       let long : length (drop half marks) ≡ length marks / 2 = simp length-drop (omega arith) in
       let front : length (take half values) ≡ half = length-take-le half values (omega (arith, posed.same)) in
       let back : length (drop half values) ≡ length marks / 2 = simp length-drop (omega (arith, posed.same)) in
-      let few : turns ≤ 11 = few_turns posed two in
+      let few : turns ≤ 11 = posed_few posed two in
       record {
         some = omega arith;
         short = rw long (right_short (length marks) turns posed.short);

@@ -1,7 +1,8 @@
 -- Scores of words: a near label outscores every other. Assumes nothing.
-use Rattle.std.specs.Prelude.{◌≡◌, ℕ, ◌*◌, ◌^◌, ◌<◌, ◌≤◌, Bool, true, false, List, [], ◌∷◌, length, pos, ◌+ℤ◌, ◌-ℤ◌, ◌≤ℤ◌}
+use Rattle.std.specs.Prelude.{◌≡◌, ℕ, ◌+◌, ◌*◌, ◌^◌, ◌<◌, ◌≤◌, Bool, true, false, List, [], ◌∷◌, length, drop, pos, ◌+ℤ◌, ◌-ℤ◌, ◌≤ℤ◌, slice_index_or}
 use Rattle.std.proofs.Common.{sym, ap, ◌∙◌, ⊎_elim, arith, mul-zero, mul-suc, mul-le-mul, mul-le-mul_left, mul-le-mul_right, mul_left_comm}
 use Rattle.std.proofs.lemmas.Int.{ints}
+use Rattle.std.proofs.lemmas.List.{drop_more}
 use Rattle.std.proofs.lemmas.Bool.{cases_lt}
 use Rattle.soft.specs.Kind.{Kind, Score, AllFair, limit}
 use Rattle.polar.specs.Words.{plus, trues}
@@ -11,8 +12,16 @@ use Rattle.polar.proofs.Shapes.{leaves_balanced, left_heavy_balanced}
 use Rattle.polar.proofs.Sums.{plus_same, trues_zeros, same_from_plus}
 use Rattle.polar.proofs.Distance.{distance}
 use Rattle.readers.specs.Readings.{Posed, Near, AllFit, total}
-use Rattle.readers.specs.Node.{turns_most}
+use Rattle.readers.specs.Node.{posed_turns}
 use Rattle.scored_readers.specs.ExhaustiveReading.{word_score}
+
+-- ---- the steps of a sum of scores
+
+pub score_more : {K : Type 0} (score : Score K) (turns : ℕ) (values : List K) (word : List Bool) (i : ℕ) (v : K) → i < length values → i < length word → v ≡ slice_index_or values i v
+    → word_score score turns (drop i values) (drop i word) ≡ score v (slice_index_or word i false) turns +ℤ word_score score turns (drop (i + 1) values) (drop (i + 1) word)
+score_more score turns values word i v p q read =
+    let front : drop i values ≡ v ∷ drop (i + 1) values = drop_more values i v p ∙ ap (λ x. x ∷ drop (i + 1) values) (sym read) in
+    rw (front, drop_more word i false q)
 
 -- no sum passes what 32 bits hold
 pub score_room : (unit len turns i : ℕ) → unit ≤ 2047 → len * 2 ^ turns ≤ 4096 → i ≤ len → i * (unit * 2 ^ turns) ≤ 8384512
@@ -44,7 +53,7 @@ module _ {K : Type 0} (kind : Kind K) (score : Score K) (fair : AllFair kind sco
       let s = tree_of ms in
       let d = trues (plus word other) in
       let size = leaves_balanced (length ms) posed.some in
-      let few = turns_most posed in
+      let few = posed_turns posed in
       let long : length word ≡ length values = code.0 ∙ size ∙ sym posed.same in
       let long' : length other ≡ length values = code'.0 ∙ size ∙ sym posed.same in
       ⊎_elim

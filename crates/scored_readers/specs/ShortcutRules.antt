@@ -1,8 +1,8 @@
 -- The shortcut keeps the rules of a reader, if the reader below does. Assumes nothing.
-use Rattle.std.specs.Prelude.{◌≡◌, ℕ, suc, ◌+◌, ◌-◌, ◌^◌, ◌≤◌, Bool, true, false, cond, ◌||◌, List, [], ◌∷◌, map, length, ℤ, ◌≤ℤ◌, ◌==◌, int_lt, nat_lt, slice_index_or, refl}
+use Rattle.std.specs.Prelude.{◌≡◌, ℕ, suc, ◌+◌, ◌-◌, ◌^◌, ◌<◌, ◌≤◌, Bool, true, false, cond, ◌||◌, List, [], ◌∷◌, map, length, ℤ, ◌≤ℤ◌, ◌==◌, ◌≢◌, int_lt, nat_lt, slice_index_or, refl}
 use Rattle.std.proofs.Common.{sym, ap, subst, ◌∙◌, arith}
 use Rattle.std.proofs.lemmas.List.{length-map}
-use Rattle.std.proofs.lemmas.Bool.{eqb-true, and_parts, cond_both, false≢true, le-leb}
+use Rattle.std.proofs.lemmas.Bool.{eqb-true, and_parts, cond_both, false≢true, ne_eqb, eq-eqb, lt-ltb, le-leb}
 use Rattle.soft.specs.Kind.{Kind, Score, AllFair}
 use Rattle.polar.specs.Shape.{leaves}
 use Rattle.polar.specs.Words.{trues, parity}
@@ -14,7 +14,7 @@ use Rattle.polar.proofs.Sums.{trues_bound}
 use Rattle.polar.proofs.Label.{length_unlabel, label_unlabel}
 use Rattle.polar.proofs.Relation.{parity_label}
 use Rattle.readers.specs.Readings.{Reading, ReaderRules, Posed, Near}
-use Rattle.readers.specs.Node.{turns_most}
+use Rattle.readers.specs.Node.{posed_turns}
 use Rattle.scored_readers.specs.ExhaustiveReading.{data_word, word_score, best, exhaustive_answer}
 use Rattle.scored_readers.specs.ShortcutReading.{first_frozen, pattern_of, known, zero_label, even_answer, single_answer, pattern_answer, shortcut_reading}
 use Rattle.scored_readers.specs.declared.pattern.Pattern.{Pattern}
@@ -33,6 +33,11 @@ pattern_cases ms P frozen full check single other =
     cond_both (trues ms == length ms) _ _ P (λ e. full (eqb-true _ _ e)) (λ _.
     cond_both (first_frozen ms) _ _ P check (λ _.
     cond_both (trues ms == 1) _ _ P (λ e. single (eqb-true _ _ e)) (λ _. other))))
+
+pub pattern_check : (ms : List Bool) → (trues ms ≢ 0) → (trues ms ≢ length ms) → slice_index_or ms 0 false ≡ false → 1 < length ms → trues ms + 1 ≡ length ms
+    → Check ≡ pattern_of ms
+pattern_check ms some part frozen long most =
+    rw (ne_eqb (trues ms) 0 some, ne_eqb (trues ms) (length ms) part, frozen, lt-ltb 1 (length ms) long, eq-eqb (trues ms + 1) (length ms) most)
 
 leaf_known : (mark taken : Bool) → (known (pattern_of (mark ∷ [])) || taken) ≡ true
 leaf_known true taken = refl
@@ -67,7 +72,7 @@ module _ {K : Type 0} (kind : Kind K) (score : Score K) (fair : AllFair kind sco
     size = leaves_balanced (length ms) posed.some
 
     few : turns ≤ 12
-    few = turns_most posed
+    few = posed_turns posed
 
     -- what a reader answers: a label, and the near one if there is one
     abbrev Right : List Bool → Type 0

@@ -28,7 +28,7 @@ impl Soft for Erasure {
     fn compare(self, other: Erasure, _turns: u32) -> Erasure {
         match (self, other) {
             (Erasure::Unknown, _) | (_, Erasure::Unknown) => Erasure::Unknown,
-            (Erasure::Zero, Erasure::Zero) | (Erasure::One, Erasure::One) => Erasure::Zero,
+            (v, w) if v == w => Erasure::Zero,
             _ => Erasure::One,
         }
     }
@@ -53,9 +53,9 @@ impl Soft for Erasure {
 fn turned(v: Erasure, bit: bool) -> Erasure
     ensures { result ≡ moved v bit }
 {
-    match (v, bit) {
-        (Erasure::Unknown, _) => Erasure::Unknown,
-        (Erasure::Zero, false) | (Erasure::One, true) => Erasure::Zero,
+    match v {
+        Erasure::Unknown => v,
+        _ if (v == Erasure::One) == bit => Erasure::Zero,
         _ => Erasure::One,
     }
 }
@@ -69,9 +69,9 @@ impl Scored for Erasure {
     // The limit for the value's own bit, its opposite for the other.
     fn score(self, bit: bool, turns: u32) -> i32 {
         let sure = power(turns);
-        match (self, bit) {
-            (Erasure::Unknown, _) => 0,
-            (Erasure::Zero, false) | (Erasure::One, true) => sure,
+        match self {
+            Erasure::Unknown => 0,
+            _ if (self == Erasure::One) == bit => sure,
             _ => -sure,
         }
     }
@@ -94,9 +94,9 @@ impl Listed for Erasure {
     }
 
     fn shortfall(self, bit: bool) -> u32 {
-        match (self, bit) {
-            (Erasure::Unknown, _) => 1,
-            (Erasure::Zero, false) | (Erasure::One, true) => 0,
+        match self {
+            Erasure::Unknown => 1,
+            _ if (self == Erasure::One) == bit => 0,
             _ => FAR,
         }
     }

@@ -1,15 +1,16 @@
 -- What loading gives, by the first field that is refused. Assumes nothing.
-use Rattle.std.proofs.Common.{◌≡◌, ℕ, ◌<◌, Bool, List, [], ◌∷◌, get_or, ℤ, IsErrAnd, Ok, Err, Result, sym, refl, ap, ◌∙◌, w8, Fits}
+use Rattle.std.proofs.Common.{◌≡◌, ℕ, ◌<◌, Bool, List, [], ◌∷◌, get_or, ℤ, IsErrAnd, Ok, Err, Result, sym, refl, ap, ◌∙◌, subst, w8, Fits}
 use Rattle.std.proofs.ByRecursion.{All-from_get_or}
 use Rattle.std.proofs.lemmas.Result.{err_from_is_err_and}
 use Rattle.polar.specs.declared.refusal.Refusal.{Refusal}
 use Rattle.storage.specs.declared.cursor.Cursor.{Cursor}
+use Rattle.storage.specs.declared.loading.Header.{Header}
 use Rattle.storage.specs.Contents.{Content, content_of}
 use Rattle.storage.specs.Stored.{version}
 use Rattle.storage.specs.Reading.{Reader, got, refused, ended, field_at, marks_at, counts_at, content_at, outcome}
 use Rattle.storage.specs.Cursors.{rest, read_by}
 use Rattle.storage.specs.Laws.{Bytes}
-use Rattle.storage.specs.Calls.{refusal_in, Loaded}
+use Rattle.storage.specs.Calls.{Fronts, refusal_in, Loaded}
 use Rattle.storage.proofs.RoundTrip.{accepts_only_what_is_stored}
 use Rattle.storage.proofs.Steps.{then_got, then_refused}
 
@@ -61,6 +62,11 @@ ends_well x x' y at [] e = refl
 ends_well x x' y at (b ∷ bytes) e = cc
 
 -- the exit of a `?`
+pub fronts_exit : (top : ℕ) (bytes : List ℕ) (ms : List Bool) (vs : List ℤ) (r : Result Header Refusal) {x : Refusal} → IsErrAnd r (λ y. y ≡ x) → outcome top bytes ≡ Err x → Fronts top bytes r ms vs
+fronts_exit top bytes ms vs r by e =
+    let p = err_from_is_err_and r by in
+    subst (λ r. Fronts top bytes r ms vs) (sym p.1) (e ∙ ap Err (sym p.2))
+
 pub refused_exit : {given : Result Content Refusal} (r : Result Content Refusal) {x : Refusal} → IsErrAnd r (λ y. y ≡ x) → given ≡ Err x → r ≡ given
 refused_exit r by e = let p = err_from_is_err_and r by in p.1 ∙ ap Err p.2 ∙ sym e
 

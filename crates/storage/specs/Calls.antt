@@ -1,10 +1,11 @@
 -- Loading and storing: which refusal is due, and what an accepted call leaves. Assumes nothing.
-use Rattle.std.specs.Prelude.{◌≡◌, ℕ, ◌&&◌, List, ◌++◌, length, drop, Some, None, Ok, Err, Option, Result, ◌==◌, nat_le, nat_lt}
+use Rattle.std.specs.Prelude.{◌≡◌, ℕ, Bool, ◌&&◌, List, ◌++◌, length, take, drop, ℤ, Some, None, Ok, Err, Option, Result, ◌==◌, nat_le, nat_lt}
 use Rattle.polar.specs.declared.refusal.Refusal.{Refusal}
 use Rattle.polar.specs.declared.refusal.Refusal.TheVariants.{Marks, Range, Output, ItemCount}
 use Rattle.polar.specs.Refusals.{Outcome, refused_if, refused_unless, length_due}
 use Rattle.polar.specs.Words.{trues}
-use Rattle.storage.specs.Contents.{Content, all_small, Sound}
+use Rattle.storage.specs.declared.loading.Header.{Header}
+use Rattle.storage.specs.Contents.{Content, content_of, all_small, Sound}
 use Rattle.storage.specs.Stored.{stored}
 use Rattle.storage.specs.Reading.{outcome}
 
@@ -25,6 +26,11 @@ pub record Held (top : ℕ) (bytes : List ℕ) (content : Content) : Type 0 wher
 
 abbrev pub Loaded : ℕ → List ℕ → Result Content Refusal → Type 0
 Loaded top bytes answer = Outcome (load_due top bytes) answer (Held top bytes) Unit
+
+-- what reading `bytes` into the fronts of two rows answers and leaves
+abbrev pub Fronts : ℕ → List ℕ → Result Header Refusal → List Bool → List ℤ → Type 0
+Fronts top bytes (Ok h) ms vs = outcome top bytes ≡ Ok (content_of (take h.length ms) (take h.length vs) h.exponent)
+Fronts top bytes (Err r) ms vs = outcome top bytes ≡ Err r
 
 -- storing in a buffer of `room` bytes: the marks come first, then the counts and the exponent, then the buffer
 abbrev pub store_due : ℕ → Content → ℕ → Option Refusal

@@ -1,15 +1,22 @@
 // Loading marks, counts and exponent from bytes.
-ghost use Rattle.std.specs.Prelude.{◌≡◌};
+ghost use Rattle.std.specs.Prelude.{◌≡◌, ◌≤◌, length, IfOk};
 ghost use Rattle.storage.specs.Contents.{top_count};
 ghost use Rattle.storage.specs.Reading.{outcome};
 ghost use Rattle.storage.specs.Laws.{AcceptsOnlyWhatIsStored, NumbersAreRead, RefusalsArePlaced};
-ghost use Rattle.storage.specs.Calls.{Loaded};
+ghost use Rattle.storage.specs.Calls.{Fronts, Loaded};
 
 use crate::cursor::Cursor;
 use crate::{MAX_EXPONENT, VERSION};
 use polar::plan::MAX_LENGTH;
 use polar::refusal::Refusal;
 use std::marker::Model;
+
+// What was loaded besides the rows: their length and the exponent.
+#[derive(Clone, Copy, PartialEq, Eq, Debug)]
+pub struct Header {
+    pub length: usize,
+    pub exponent: u8,
+}
 
 // What was loaded: the marks, as many counts, and the exponent. (Arrays with their length: no memory is taken.)
 #[derive(Drop)]
@@ -50,35 +57,50 @@ impl Block {
     {
         self.exponent
     }
+
+    // How many symbols the block has, and its exponent.
+    pub fn header(&self) -> Header
+        ensures { (result.length ≡ length self.now.marks) × (result.exponent ≡ self.now.exponent) }
+    {
+        Header {
+            length: self.len,
+            exponent: self.exponent,
+        }
+    }
 }
 
-// Reads the fields of `bytes`, and refuses bytes that follow them.
-fn read(bytes: &[u8]) -> Result<Block, Refusal>
-    ensures { result ≡ outcome top_count bytes.now }
+// Reads the fields of `bytes` into the fronts of two rows, and refuses bytes that follow them.
+fn read_rows(bytes: &[u8], marks: &mut [bool], counts: &mut [i16]) -> Result<Header, Refusal>
+    requires { (length marks.old ≡ 4096) × (length counts.old ≡ 4096) }
+    ensures fronts { Fronts top_count bytes.now result marks.new counts.new }
+    ensures sized { IfOk result (λ h. (1 ≤ h.length) × (h.length ≤ 4096)) }
 {
     let mut input = Cursor::new(bytes);
     input.field(VERSION, VERSION)?;
-    let len = input.field(1, MAX_LENGTH as u32)? as usize;
+    let length = input.field(1, MAX_LENGTH as u32)? as usize;
     let exponent = input.field(0, u32::from(MAX_EXPONENT))? as u8;
-    let mut marks = [false; MAX_LENGTH];
-    let mut counts = [0; MAX_LENGTH];
-    input.marks(&mut marks[..len])?;
-    input.counts(&mut counts[..len])?;
+    input.marks(&mut marks[..length])?;
+    input.counts(&mut counts[..length])?;
     input.end()?;
-    Ok(Block {
-        marks,
-        counts,
-        len,
-        exponent,
-    })
+    Ok(Header { length, exponent })
 }
 
-// What `bytes` store, or the first refusal in their order.
+// What `bytes` store, or the first refusal in their order. (The rows are read where they lie in the block: to copy rows of the
+// greatest length costs more than to read a short block.)
 pub fn load(bytes: &[u8]) -> Result<Block, Refusal>
     ensures loaded { Loaded top_count bytes.now result }
     ensures accepts { AcceptsOnlyWhatIsStored top_count }
     ensures numbers { NumbersAreRead }
     ensures placed { RefusalsArePlaced top_count }
 {
-    read(bytes)
+    let mut block = Block {
+        marks: [false; MAX_LENGTH],
+        counts: [0; MAX_LENGTH],
+        len: 0,
+        exponent: 0,
+    };
+    let header = read_rows(bytes, &mut block.marks, &mut block.counts)?;
+    block.len = header.length;
+    block.exponent = header.exponent;
+    Ok(block)
 }

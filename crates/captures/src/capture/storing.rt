@@ -28,8 +28,13 @@ impl Capture {
         ensures value { Loaded top_count (captured self.old) bytes.now result (captured self.new) }
         ensures saves { SavesBack top_count bytes.now result (captured self.new) }
     {
-        let block = loading::load(bytes)?;
-        self.replace(block.marks(), block.counts(), block.exponent());
-        Ok(())
+        // (By reference: a block is long, and `?` would copy it.)
+        match &loading::load(bytes) {
+            Ok(block) => {
+                self.replace(block.marks(), block.counts(), block.exponent());
+                Ok(())
+            }
+            Err(refusal) => Err(*refusal),
+        }
     }
 }

@@ -1,6 +1,6 @@
 use Rattle.std.proofs.Common.{◌≡◌, ◌+◌, ◌/◌, ◌≤◌, Bool, false, List, length, sym, ap, ◌∙◌, arith}
 use Rattle.readers.specs.Rows.{joined_rows}
-use Rattle.readers.specs.Node.{few_turns}
+use Rattle.readers.specs.Node.{posed_few}
 use Rattle.readers.specs.SplitSteps.{own_least, posed_left, posed_right, same_answer, split_taken, split_untaken, two_leaves, left_ready, right_ready}
 use Rattle.readers.proofs.split.+read_by_halves.Given as given
 use Rattle.readers.proofs.split.+read_by_halves.Goals as goal
@@ -45,7 +45,7 @@ read_by_halves-requires g t c κs within =
 pub overflow_add-right : goal.overflow_add-right
 overflow_add-right g t c =
     let posed = c.args.question.now.posed in
-    let few = few_turns posed (split_node g c.args.below.now posed.some c.takes.ensures c.if-takes.false) in
+    let few = posed_few posed (split_node g c.args.below.now posed.some c.takes.ensures c.if-takes.false) in
     omega arith
 
 pub invariant_of-right : goal.invariant_of-right

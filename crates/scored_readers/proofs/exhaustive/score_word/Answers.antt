@@ -8,7 +8,7 @@ use Rattle.std.proofs.lemmas.Iterator.{YieldsList, YieldsList-from_slice, Yields
 use Rattle.std.proofs.lemmas.Iterator.Adapters.{serves_from_places}
 use Rattle.soft.specs.Kind.{Kind, Score, AllFair, limit}
 use Rattle.readers.specs.Readings.{AllFit}
-use Rattle.readers.specs.Node.{turns_most}
+use Rattle.readers.specs.Node.{posed_turns}
 use Rattle.scored_readers.specs.ExhaustiveReading.{word_score}
 use Rattle.scored_readers.specs.Scores.{score_room}
 use Rattle.scored_readers.proofs.exhaustive.score_word.Goals as goal
@@ -63,7 +63,7 @@ pub sum-requires-clause-can : goal.sum-requires-clause-can
 sum-requires-clause-can g c =
     let posed = c.args.question.now.posed in
     let turns = c.args.question.now.turns in
-    let few = turns_most posed in
+    let few = posed_turns posed in
     let road = YieldsList-from_zip {s = c.map.result.iter} (YieldsList-from_slice c.args.question.now.values.now (cc)) (YieldsList-from_slice c.args.word.now (cc)) in (
       (tt, tt),
       serves_from_places road (λ x q k. search rules) (λ x i less is.
@@ -84,7 +84,7 @@ sum-requires-clause-fits g c =
     let items = few_items kind score turns values word in
     let room = score_room kind.unit (length c.args.question.now.marks.now) turns (length all) g.met.K.Soft.rules.unit_most posed.short (omega (arith, posed.same, items)) in
     (λ p whole from.
-    let most = bounded_road _ (limit kind turns) p.items all _ _ p.gave.0.0 (pos 0) p.gave.0.1 from (YieldsList-from_map {s = c.map.result} _ (at kind score turns) (YieldsList-from_zip {s = c.map.result.iter} (YieldsList-from_slice values (cc)) (YieldsList-from_slice word (cc))) c.map.ensures.closure (λ x r q k. search rules)) (small_items kind score turns g.met.K.Scored.fair (turns_most posed) values word posed.fits) in
+    let most = bounded_road _ (limit kind turns) p.items all _ _ p.gave.0.0 (pos 0) p.gave.0.1 from (YieldsList-from_map {s = c.map.result} _ (at kind score turns) (YieldsList-from_zip {s = c.map.result.iter} (YieldsList-from_slice values (cc)) (YieldsList-from_slice word (cc))) c.map.ensures.closure (λ x r q k. search rules)) (small_items kind score turns g.met.K.Scored.fair (posed_turns posed) values word posed.fits) in
     omega (arith, ints, most, room))
 
 pub returns : goal.returns

@@ -13,7 +13,7 @@ use Rattle.std.specs.declared.cmp.Ordering.TheVariants.{Less, Equal, Greater}
 use Rattle.std.specs.declared.ops.Range.{Range}
 use Rattle.std.proofs.lemmas.List.{get_or-map}
 use Rattle.readers.specs.Rows.{all_read}
-use Rattle.readers.specs.Node.{turns_most}
+use Rattle.readers.specs.Node.{posed_turns}
 use Rattle.scored_readers.specs.ExhaustiveReading.{best}
 use Rattle.scored_readers.specs.ShortcutReading.{score_width}
 use Rattle.scored_readers.proofs.shortcut.find_weakest.Goals as goal
@@ -97,7 +97,7 @@ min_by_key-requires-clause-callable g c =
     let fits = λ (v : g.row.K.Denot). T (g.K.Soft.kind.fitting v c.args.question.now.turns) in
     callable _ _ (λ x k q called. search rules) _ (λ x less y shows.
     let shown : y.now < length c.args.question.now.values.now = omega (arith, shows, less) in
-    (λ a b d e h i j. omega (arith, shown), λ a b d e h i j. shown, λ a b d e h i j given k l m. (turns_most posed, all_read fits c.args.question.now.values.now y.now given.0 shown given.1 posed.fits)))
+    (λ a b d e h i j. omega (arith, shown), λ a b d e h i j. shown, λ a b d e h i j given k l m. (posed_turns posed, all_read fits c.args.question.now.values.now y.now given.0 shown given.1 posed.fits)))
 
 pub returns-clause-value : goal.returns-clause-value
 returns-clause-value g c =
