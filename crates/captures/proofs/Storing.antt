@@ -1,5 +1,6 @@
 -- What saving and loading promise, from the laws of the stored form. Assumes nothing.
-use Rattle.std.proofs.Common.{◌≡◌, ℕ, zero, suc, true, ltb, leb, List, [], ◌∷◌, length, ℤ, nat_abs, Some, None, Ok, Err, Result, sym, refl, ap, ◌∙◌, arith}
+use Rattle.std.proofs.Common.{◌≡◌, ℕ, zero, suc, ◌-◌, true, ltb, leb, List, [], ◌∷◌, ◌++◌, length, take, ℤ, nat_abs, Some, None, Ok, Err, Result, sym, refl, ap, ◌∙◌, arith, take_at}
+use native.Mathlib.Nat.{sub-zero}
 use Rattle.std.proofs.lemmas.Bool.{and_parts, leb-true, le-leb, lt-ltb, le-ltb, eq-eqb, ne_eqb}
 use Rattle.polar.specs.declared.refusal.Refusal.{Refusal}
 use Rattle.polar.specs.Words.{trues}
@@ -24,6 +25,10 @@ pub within_from_small : (top : ℕ) (counts : List ℤ) → all_small top counts
 within_from_small top [] h i p = absurd (omega arith)
 within_from_small top (v ∷ counts) h zero p = leb-true (nat_abs v) top (and_parts (leb (nat_abs v) top) (all_small top counts) h).0
 within_from_small top (v ∷ counts) h (suc i) p = within_from_small top counts (and_parts (leb (nat_abs v) top) (all_small top counts) h).1 i (omega arith)
+
+-- the front of a row that was filled
+pub front_is : {A : Type 0} (n : ℕ) (xs rest row : List A) → row ≡ xs ++ rest → length xs ≡ n → take (n - 0) row ≡ xs
+front_is n xs rest row is size = rw (is, sub-zero) (take_at xs rest n size)
 
 -- a sound capture is refused only for want of room
 pub sound_due : (top : ℕ) (c : Captured) (room : ℕ) → Sound top (content_in c) → store_due top (content_in c) room ≡ refused_if (ltb room (length (saved_bytes top c))) Output None

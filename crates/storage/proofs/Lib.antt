@@ -5,3 +5,4 @@ pub mod Spelling
 pub mod Places
 pub mod Outcomes
 pub mod Turns
+pub mod Rows

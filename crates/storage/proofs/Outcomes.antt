@@ -1,5 +1,5 @@
 -- What loading gives, by the first field that is refused. Assumes nothing.
-use Rattle.std.proofs.Common.{◌≡◌, ℕ, ◌<◌, Bool, List, [], ◌∷◌, get_or, ℤ, IsErrAnd, Ok, Err, Result, sym, refl, ap, ◌∙◌, subst, w8, Fits}
+use Rattle.std.proofs.Common.{◌≡◌, ℕ, ◌<◌, Bool, List, [], ◌∷◌, get_or, ℤ, IsErrAnd, Some, Ok, Err, Result, sym, refl, ap, ◌∙◌, subst, w8, Fits}
 use Rattle.std.proofs.ByRecursion.{All-from_get_or}
 use Rattle.std.proofs.lemmas.Result.{err_from_is_err_and}
 use Rattle.polar.specs.declared.refusal.Refusal.{Refusal}
@@ -10,7 +10,7 @@ use Rattle.storage.specs.Stored.{version}
 use Rattle.storage.specs.Reading.{Reader, got, refused, ended, field_at, marks_at, counts_at, content_at, outcome}
 use Rattle.storage.specs.Cursors.{rest, read_by}
 use Rattle.storage.specs.Laws.{Bytes}
-use Rattle.storage.specs.Calls.{Fronts, refusal_in, Loaded}
+use Rattle.storage.specs.Calls.{Fronts, refusal_in, Loaded, RowsLoaded}
 use Rattle.storage.proofs.RoundTrip.{accepts_only_what_is_stored}
 use Rattle.storage.proofs.Steps.{then_got, then_refused}
 
@@ -66,6 +66,11 @@ pub fronts_exit : (top : ℕ) (bytes : List ℕ) (ms : List Bool) (vs : List ℤ
 fronts_exit top bytes ms vs r by e =
     let p = err_from_is_err_and r by in
     subst (λ r. Fronts top bytes r ms vs) (sym p.1) (e ∙ ap Err (sym p.2))
+
+pub loaded_exit : (top : ℕ) (bytes : List ℕ) (ms : List Bool) (vs : List ℤ) (r : Result Header Refusal) {x : Refusal} → IsErrAnd r (λ y. y ≡ x) → outcome top bytes ≡ Err x → RowsLoaded top bytes ms vs r ms vs
+loaded_exit top bytes ms vs r by e =
+    let p = err_from_is_err_and r by in
+    subst (λ r. RowsLoaded top bytes ms vs r ms vs) (sym p.1) (ap refusal_in e ∙ ap Some (sym p.2), (refl, refl))
 
 pub refused_exit : {given : Result Content Refusal} (r : Result Content Refusal) {x : Refusal} → IsErrAnd r (λ y. y ≡ x) → given ≡ Err x → r ≡ given
 refused_exit r by e = let p = err_from_is_err_and r by in p.1 ∙ ap Err p.2 ∙ sym e

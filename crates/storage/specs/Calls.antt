@@ -27,6 +27,20 @@ pub record Held (top : ℕ) (bytes : List ℕ) (content : Content) : Type 0 wher
 abbrev pub Loaded : ℕ → List ℕ → Result Content Refusal → Type 0
 Loaded top bytes answer = Outcome (load_due top bytes) answer (Held top bytes) Unit
 
+-- An accepted load of `bytes` into the rows ms and vs leaves ms' and vs': in front what the bytes give, and then what was there.
+-- The bytes are its stored form, and it is sound.
+pub record RowsHeld (top : ℕ) (bytes : List ℕ) (ms : List Bool) (vs : List ℤ) (ms' : List Bool) (vs' : List ℤ) (header : Header) : Type 0 where
+  pub content : Content
+  pub held : Held top bytes content
+  pub length_is : header.length ≡ length content.marks
+  pub exponent_is : header.exponent ≡ content.exponent
+  pub marks_are : ms' ≡ content.marks ++ drop header.length ms
+  pub counts_are : vs' ≡ content.counts ++ drop header.length vs
+
+abbrev pub RowsLoaded : ℕ → List ℕ → List Bool → List ℤ → Result Header Refusal → List Bool → List ℤ → Type 0
+RowsLoaded top bytes ms vs answer ms' vs' =
+    Outcome (load_due top bytes) answer (RowsHeld top bytes ms vs ms' vs') ((ms' ≡ ms) × (vs' ≡ vs))
+
 -- what reading `bytes` into the fronts of two rows answers and leaves
 abbrev pub Fronts : ℕ → List ℕ → Result Header Refusal → List Bool → List ℤ → Type 0
 Fronts top bytes (Ok h) ms vs = outcome top bytes ≡ Ok (content_of (take h.length ms) (take h.length vs) h.exponent)

@@ -3,7 +3,7 @@ ghost use Rattle.std.specs.Prelude.{◌≡◌, ◌≤◌, length, IfOk};
 ghost use Rattle.storage.specs.Contents.{top_count};
 ghost use Rattle.storage.specs.Reading.{outcome};
 ghost use Rattle.storage.specs.Laws.{AcceptsOnlyWhatIsStored, NumbersAreRead, RefusalsArePlaced};
-ghost use Rattle.storage.specs.Calls.{Fronts, Loaded};
+ghost use Rattle.storage.specs.Calls.{Fronts, Loaded, RowsLoaded};
 
 use crate::cursor::Cursor;
 use crate::{MAX_EXPONENT, VERSION};
@@ -85,8 +85,7 @@ fn read_rows(bytes: &[u8], marks: &mut [bool], counts: &mut [i16]) -> Result<Hea
     Ok(Header { length, exponent })
 }
 
-// What `bytes` store, or the first refusal in their order. (The rows are read where they lie in the block: to copy rows of the
-// greatest length costs more than to read a short block.)
+// What `bytes` store, or the first refusal in their order. (The rows are read where they lie in the block.)
 pub fn load(bytes: &[u8]) -> Result<Block, Refusal>
     ensures loaded { Loaded top_count bytes.now result }
     ensures accepts { AcceptsOnlyWhatIsStored top_count }
@@ -103,4 +102,25 @@ pub fn load(bytes: &[u8]) -> Result<Block, Refusal>
     block.len = header.length;
     block.exponent = header.exponent;
     Ok(block)
+}
+
+// The same into the fronts of two rows, whose tails stay; a refusal leaves both as they were. (For callers with rows of their own: a block
+// that is handed over is copied whole, which takes twice the time of reading a short one.)
+pub fn load_rows(
+    bytes: &[u8],
+    marks: &mut [bool; MAX_LENGTH],
+    counts: &mut [i16; MAX_LENGTH],
+) -> Result<Header, Refusal>
+    ensures loaded { RowsLoaded top_count bytes.now marks.old counts.old result marks.new counts.new }
+    ensures accepts { AcceptsOnlyWhatIsStored top_count }
+    ensures numbers { NumbersAreRead }
+    ensures placed { RefusalsArePlaced top_count }
+{
+    let mut new_marks = [false; MAX_LENGTH];
+    let mut new_counts = [0; MAX_LENGTH];
+    let header = read_rows(bytes, &mut new_marks, &mut new_counts)?;
+    let n = header.length;
+    marks[0..n].copy_from_slice(&new_marks[0..n]);
+    counts[0..n].copy_from_slice(&new_counts[0..n]);
+    Ok(header)
 }

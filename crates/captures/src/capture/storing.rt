@@ -5,6 +5,7 @@ ghost use Rattle.captures.specs.Promises.{LoadsBack, SavesBack};
 ghost use Rattle.captures.specs.Views.{captured};
 
 use crate::capture::Capture;
+use polar::plan::MAX_LENGTH;
 use polar::refusal::Refusal;
 use storage::loading;
 use storage::storing::store;
@@ -28,13 +29,12 @@ impl Capture {
         ensures value { Loaded top_count (captured self.old) bytes.now result (captured self.new) }
         ensures saves { SavesBack top_count bytes.now result (captured self.new) }
     {
-        // (By reference: a block is long, and `?` would copy it.)
-        match &loading::load(bytes) {
-            Ok(block) => {
-                self.replace(block.marks(), block.counts(), block.exponent());
-                Ok(())
-            }
-            Err(refusal) => Err(*refusal),
-        }
+        // (Local rows, which take no memory.)
+        let mut marks = [false; MAX_LENGTH];
+        let mut counts = [0; MAX_LENGTH];
+        let header = loading::load_rows(bytes, &mut marks, &mut counts)?;
+        let n = header.length;
+        self.replace(&marks[0..n], &counts[0..n], header.exponent);
+        Ok(())
     }
 }
