@@ -1,5 +1,5 @@
 -- Codewords carry their data: what is written encodes them, and they are taken out again. Assumes nothing.
-use Rattle.std.proofs.Common.{◌≡◌, ℕ, ◌≤◌, Bool, true, false, List, [], ◌∷◌, ◌++◌, length, take, drop, Ok, Err, Result, IfOk, sym, refl, ap, ◌∙◌, take_at}
+use Rattle.std.proofs.Common.{◌≡◌, ℕ, ◌≤◌, Bool, true, false, List, [], ◌∷◌, ◌++◌, length, take, drop, Ok, Err, Result, IfOk, sym, refl, ap, ◌∙◌, take_at, subst}
 use lib.ListN.{length-map}
 use Rattle.polar.specs.Shape.{balanced}
 use Rattle.polar.specs.Words.{trues}
@@ -58,3 +58,9 @@ pub returned : (ms w labels : List Bool) (before after : List ℕ) (answer : Res
     → IfOk answer (λ n. (ds : List Bool) → length ds ≡ trues ms → w ≡ codeword ms ds → take n after ≡ bytes ds)
 returned ms w labels before after (Err e) some taken = tt
 returned ms w labels before after (Ok n) some taken = λ ds count code. rw taken.1.1 (taken_out ms w ds (drop n before) n some taken.1.0 count code)
+
+-- the same of another name for the bits that were taken out
+pub returned_of : (ms w labels : List Bool) (before after : List ℕ) (answer : Result ℕ Refusal) → 1 ≤ length ms → TakenOut ms w before answer labels after → (bits : List Bool) → w ≡ bits
+    → IfOk answer (λ n. (ds : List Bool) → length ds ≡ trues ms → bits ≡ codeword ms ds → take n after ≡ bytes ds)
+returned_of ms w labels before after answer some taken bits same =
+    subst (λ (u : List Bool). IfOk answer (λ n. (ds : List Bool) → length ds ≡ trues ms → u ≡ codeword ms ds → take n after ≡ bytes ds)) same (returned ms w labels before after answer some taken)

@@ -93,6 +93,10 @@ pub fn extract(plan: &Plan, word: &[u8], out: &mut [u8]) -> Result<usize, Refusa
     ensures returns { IfOk result (λ n. (ds : List Bool) → length ds ≡ trues (marks_of plan.now) → bits word.now ≡ codeword (marks_of plan.now) ds → take n out.new ≡ bytes ds) }
 {
     plan.check_word(word)?;
+    // (`take_out` looks at the room too, but after the row is made.)
+    if out.len() < plan.active() {
+        return Err(Refusal::Output);
+    }
     // (A local row, which takes no memory; the slice carries the length.)
     let mut room = [false; MAX_LENGTH];
     let labels = &mut room[0..word.len()];

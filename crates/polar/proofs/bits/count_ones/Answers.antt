@@ -23,5 +23,6 @@ sum-requires-clause-fits c =
 
 pub returns : goal.returns
 returns c =
-    sum_from_yields_List c.map.result _ c.sum.ensures.ran (YieldsList-from_map _ bool_byte (YieldsList-at c.map.ensures.source (YieldsList-from_slice c.args.word.now cc)) c.map.ensures.closure (λ x r q k. search (rules, tests)))
-    ∙ counted c.args.word.now
+    let ones = sum_from_yields_List c.map.result _ c.sum.ensures.ran (YieldsList-from_map _ bool_byte (YieldsList-at c.map.ensures.source (YieldsList-from_slice c.args.word.now cc)) c.map.ensures.closure (λ x r q k. search (rules, tests))) in
+    let is = ones ∙ counted c.args.word.now in
+    search (rules, is)

@@ -103,7 +103,8 @@ pub returns-clause-value : goal.returns-clause-value
 returns-clause-value g c =
     let values = c.args.question.now.values.now in
     let w = λ (i : ℕ). slice_index (map (score_width g.K.Scored.scoring c.args.question.now.turns) values) i in
-    picks _ _ (λ x k q called. search rules) (length values) w (λ x k q less called.
+    let is = picks _ _ (λ x k q called. search rules) (length values) w (λ x k q less called.
     let score = score_width g.K.Scored.scoring c.args.question.now.turns in
     let at = λ (v : g.row.K.Denot) (read : v ≡ get_or values called.shown.now v). ap (slice_index (map score values)) (sym called.shows) ∙ get_or-map score values called.shown.now v 0 (omega (arith, less, called.shows)) ∙ ap score (sym read) in
-    search rules) _ (subst (PicksMinByKey steps _ nat_cmp _ _) c.unwrap.ensures c.min_by_key.ensures.ran)
+    search rules) _ (subst (PicksMinByKey steps _ nat_cmp _ _) c.unwrap.ensures c.min_by_key.ensures.ran) in
+    search (rules, is)
