@@ -41,12 +41,12 @@ active_within (m ∷ ms) zero a = omega arith
 active_within (m ∷ ms) (suc i) a = omega (arith, active_within ms i a)
 
 -- every active leaf before this place weighs more than the plan
-abbrev HeavierBefore : List Bool → ℕ → Type 0
+abbrev pub HeavierBefore : List Bool → ℕ → Type 0
 HeavierBefore ms i = (j : ℕ) → j < i → get_or ms j false ≡ true → plan_weight ms < leaf_weight ms j
 
 module _ (ms : List Bool) (d : ℕ) (is : d ≡ plan_weight ms) (least : LeastWeight (tree_of ms) ms d) where
   -- then a leaf that weighs as much is still ahead
-  ahead : (i : ℕ) → HeavierBefore ms i → i < length ms
+  pub ahead : (i : ℕ) → HeavierBefore ms i → i < length ms
   ahead i all =
       let at = least.attained.0 in
       let active = least.attained.2 in
@@ -54,13 +54,13 @@ module _ (ms : List Bool) (d : ℕ) (is : d ≡ plan_weight ms) (least : LeastWe
       let within = active_within ms at active in
       ⊎_elim (λ before. absurd (omega (arith, all at before active))) (λ later. omega arith) (cases_lt at i)
 
-  found : (i : ℕ) → HeavierBefore ms i → (get_or ms i false && eqb (leaf_weight ms i) d) ≡ true → FirstLightest ms i
+  pub found : (i : ℕ) → HeavierBefore ms i → (get_or ms i false && eqb (leaf_weight ms i) d) ≡ true → FirstLightest ms i
   found i all holds =
       let parts = and_parts (get_or ms i false) (eqb (leaf_weight ms i) d) holds in
       record { within = ahead i all; active = parts.0; lightest = eqb-true (leaf_weight ms i) d parts.1 ∙ is; first = all }
 
   -- a leaf that is frozen or weighs something else is passed
-  passed : (i : ℕ) → HeavierBefore ms i → (get_or ms i false && eqb (leaf_weight ms i) d) ≡ false → HeavierBefore ms (i + 1)
+  pub passed : (i : ℕ) → HeavierBefore ms i → (get_or ms i false && eqb (leaf_weight ms i) d) ≡ false → HeavierBefore ms (i + 1)
   passed i all fails j before active =
       ⊎_elim
       (λ less. all j less active)
