@@ -8,14 +8,14 @@ use Rattle.std.proofs.lemmas.Bool.{ne_eqb, cases_lt}
 use Rattle.polar.specs.Shape.{Shape, leaf, node, leaves, balanced, LeftHeavy}
 use Rattle.polar.specs.Marks.{lesser, weight}
 use Rattle.polar.specs.Preorder.{nodes, reading_order}
-use Rattle.polar.specs.Lightest.{node_weight, some_weight, lightest, Within}
+use Rattle.polar.specs.Lightest.{node_weight, some_weight, lesser_of, lightest, Within}
 use Rattle.polar.specs.declared.frame.Node.{Node}
 use Rattle.polar.proofs.Shapes.{leaves_pos, leaves_balanced, left_heavy_balanced, few_turns}
 
-lesser_assoc : (u v w : ℕ) → lesser (lesser u v) w ≡ lesser u (lesser v w)
+pub lesser_assoc : (u v w : ℕ) → lesser (lesser u v) w ≡ lesser u (lesser v w)
 lesser_assoc u v w = grind (arith, nat_tests)
 
-lesser_none : (v : ℕ) → lesser v 0 ≡ v
+pub lesser_none : (v : ℕ) → lesser v 0 ≡ v
 lesser_none v = grind (arith, nat_tests)
 
 lesser_twice : (v w : ℕ) → lesser (2 * v) (2 * w) ≡ 2 * lesser v w
@@ -106,6 +106,23 @@ nodes_within n some short =
 
 pub some_weight_is : (w : ℕ) → 0 < w → some_weight w ≡ Some w
 some_weight_is w some = grind (arith, nat_tests)
+
+-- the smaller of two weights that may be missing
+pub lesser_weights : (v w : ℕ) → lesser_of (some_weight v) (some_weight w) ≡ some_weight (lesser v w)
+lesser_weights v w =
+    ⊎_elim
+    (λ none. let zero : v ≡ 0 = omega arith in rw zero refl)
+    (λ some.
+    ⊎_elim
+    (λ none.
+    let zero : w ≡ 0 = omega arith in
+    rw (zero, lesser_none v, some_weight_is v some) refl)
+    (λ both.
+    let least : lesser v w ≡ min v w = grind (arith, nat_tests) in
+    let more : 0 < min v w = omega arith in
+    rw (some_weight_is v some, some_weight_is w both, least, some_weight_is (min v w) more) refl)
+    (cases_lt w 1))
+    (cases_lt v 1)
 
 -- one node more, where `fold` of the others from any weight is known
 least_step : (w l : ℕ) (ws : List ℕ) (a : ℕ) → 0 < a → ((b : ℕ) → 0 < b → fold min b ws ≡ lesser b l)

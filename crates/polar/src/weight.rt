@@ -2,11 +2,21 @@
 ghost use Rattle.std.specs.Prelude.{◌≡◌, ◌≤◌, length};
 ghost use Rattle.polar.specs.Shape.{balanced};
 ghost use Rattle.polar.specs.Marks.{weight};
-ghost use Rattle.polar.specs.Lightest.{node_weight, some_weight, Within};
+ghost use Rattle.polar.specs.Lightest.{node_weight, some_weight, lesser_of, Within};
 
 use crate::frame::Node;
 use crate::walk::Walk;
-use std::iter;
+
+// The smaller of two weights, each of which may be missing.
+fn lighter(v: Option<usize>, w: Option<usize>) -> Option<usize>
+    ensures { result ≡ lesser_of v w }
+{
+    if w.is_some_and(|w| v.is_none_or(|v| w < v)) {
+        w
+    } else {
+        v
+    }
+}
 
 // The weight of an active leaf, 2 to the right branches that lead to it; any other node has none.
 fn leaf_weight(marks: &[bool], node: Node) -> Option<usize>
@@ -24,8 +34,9 @@ pub(crate) fn least_weight(marks: &[bool]) -> Option<usize>
     ensures { result ≡ some_weight (weight (balanced (length marks.now)) marks.now) }
 {
     let walk = Walk::at_root(marks.len());
-    iter::once(walk.node())
-        .chain(walk)
-        .filter_map(|node| leaf_weight(marks, node))
-        .reduce(usize::min)
+    let mut least = leaf_weight(marks, walk.node());
+    for node in walk {
+        least = lighter(least, leaf_weight(marks, node));
+    }
+    least
 }

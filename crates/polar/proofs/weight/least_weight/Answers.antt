@@ -1,43 +1,56 @@
-use Rattle.std.proofs.Common.{◌≡◌, ℕ, List, [], ◌∷◌, min, Some, None, Option, length, sym, ap, ◌∙◌, subst, rules}
-use Rattle.std.proofs.lemmas.Iterator.Adapters.{serves_from_places}
-use Rattle.std.proofs.lemmas.Iterator.Consumers.{YieldsList-from_filter_map, reduce_from_yields_List}
-use Rattle.std.specs.List.{FoldsTo, reduce}
-use Rattle.std.specs.Iterator.{FoldTurn, ReducesItems}
-use Rattle.std.proofs.lemmas.Iterator.{YieldsList}
-use Rattle.std.specs.Fn.{Called}
-use denote.Param.Members.{Mut}
+use Rattle.std.proofs.Common.{◌≡◌, ◌≤◌, Bool, List, [], ◌∷◌, length, sym, ap, ◌∙◌, subst}
+use Rattle.std.specs.List.{All}
+use Rattle.std.proofs.lemmas.List.Elements.{All-head, All-tail}
 use Rattle.polar.specs.Shape.{balanced}
-use Rattle.polar.specs.Preorder.{reading_order}
-use Rattle.polar.specs.Lightest.{node_weight, some_weight, Within}
-use Rattle.polar.proofs.Runs.{from_root}
-use Rattle.polar.proofs.Weighing.{least_chosen, lightest_weight, nodes_within}
+use Rattle.polar.specs.Marks.{lesser}
+use Rattle.polar.specs.Walks.{current, remaining, Begun}
+use Rattle.polar.specs.Lightest.{node_weight, some_weight, lightest, Within}
+use Rattle.polar.specs.declared.walk.Walk.{Walk}
+use Rattle.polar.proofs.Weighing.{lesser_assoc, lesser_none, lesser_weights, lightest_weight, nodes_within}
 use Rattle.polar.proofs.weight.least_weight.Goals as goal
 
-pub reduce-requires-clause-can : goal.reduce-requires-clause-can
-reduce-requires-clause-can c =
+-- a walk over marks that stands on the root: each of its nodes lies within the block and has few turns
+all_within : (marks : List Bool) (walk : Walk) → 1 ≤ length marks → length marks ≤ 4096 → Begun (length marks) walk
+    → All (Within (length marks)) (current walk ∷ remaining walk)
+all_within marks walk some short is =
+    let n = length marks in
+    subst (All (Within n)) (sym is) (nodes_within n some short)
+
+pub leaf_weight-least-requires : goal.leaf_weight-least-requires
+leaf_weight-least-requires c =
     let n = length c.args.marks.now in
-    let road = from_root n c.at_root-walk.result {s = c.filter_map.result.iter} c.at_root-walk.ensures (cc) (cc) (cc) (cc) in
-    let within = nodes_within n c.requires.some c.requires.short in
-    (search rules, search rules, serves_from_places road (λ x q k. search rules) (λ x k h is. let fits : Within n x = subst (Within n) (sym is) (within k x h) in search rules))
+    let walk = c.at_root-walk.result in
+    let all = all_within c.args.marks.now walk c.requires.some c.requires.short c.at_root-walk.ensures in
+    rw c.node.ensures.value (All-head (Within n) (current walk) (remaining walk) all)
 
--- the calls of `min` that `reduce` made, as numbers
-module _ {F : Type 0} (g : Mut F (ℕ × (ℕ × Unit {0})) ℕ) {f : F} (call : (a x b : ℕ) (q : F) → Called g f (a, (x, tt)) b q → (q ≡ f) × (b ≡ min a x)) where
-  folds_min : (xs : List ℕ) (a y : ℕ) (q : F) → FoldsTo {P = F × ℕ} (FoldTurn g) (f, a) xs (q, y) → FoldsTo (λ p z c. c ≡ min p z) a xs y
-  folds_min [] a y q same = ap (λ p. p.1) same
-  folds_min (x ∷ xs) a y q ((h, b), step, rest) =
-      let is = call a x b h step in
-      (b, is.1, folds_min xs b y q (subst (λ k. FoldsTo {P = F × ℕ} (FoldTurn g) (k, b) xs (q, y)) is.0 rest))
+pub loop-node-init : goal.loop-node-init
+loop-node-init c =
+    let marks = c.args.marks.now in
+    let n = length marks in
+    let walk = c.at_root-walk.result in
+    let same : c.into_iter-node-iterator.result ≡ walk = c.into_iter-node-iterator.ensures.into_iter_gives in
+    let root = c.leaf_weight-least.ensures ∙ ap (λ k. some_weight (node_weight marks k)) c.node.ensures.value in
+    let all = all_within marks walk c.requires.some c.requires.short c.at_root-walk.ensures in
+    rw same ((node_weight marks (current walk), root, ap (lightest marks) c.at_root-walk.ensures), All-tail (Within n) (current walk) (remaining walk) all)
 
-  reduces_min : {S : Type 0} {steps : S → Option ℕ → S → Type 0} {all : List ℕ} (s : S) (r : Option ℕ) → ReducesItems steps g s f r
-      → YieldsList steps (λ x. x) s all → r ≡ reduce min all
-  reduces_min s None ran road = reduce_from_yields_List min s None ran road
-  reduces_min s (Some y) (x, xs, q, drains, folds) road = reduce_from_yields_List min s (Some y) (x, xs, drains, folds_min xs x y q folds) road
+pub loop-node-preserved : goal.loop-node-preserved
+loop-node-preserved c =
+    let marks = c.args.marks.now in
+    let n = length marks in
+    let before = c.loop-node.invariant.0 in
+    let w = before.0 in
+    let v = node_weight marks c.in-Some.node in
+    let left = remaining c.next.new.self in
+    let moved : remaining c.loop-node.node-iterator ≡ c.in-Some.node ∷ left = c.in-Some.ensures.steps in
+    let least : c.lighter-least.result ≡ some_weight (lesser w v) = c.lighter-least.ensures ∙ rw (before.1, c.leaf_weight.ensures) (lesser_weights w v) in
+    let same = rw moved at before.2 in
+    let all = subst (All (Within n)) moved c.loop-node.invariant.1 in
+    ((lesser w v, least, lesser_assoc w v (lightest marks left) ∙ same), All-tail (Within n) c.in-Some.node left all)
 
 pub returns : goal.returns
 returns c =
-    let ms = c.args.marks.now in
-    let n = length ms in
-    let road = from_root n c.at_root-walk.result {s = c.filter_map.result.iter} c.at_root-walk.ensures (cc) (cc) (cc) (cc) in
-    reduces_min _ (λ a x b q k. search rules) _ c.reduce.result c.reduce.ensures.ran
-    (YieldsList-from_filter_map _ (λ x. some_weight (node_weight ms x)) road c.filter_map.ensures.closure (λ x r q k. search rules))
-    ∙ least_chosen ms (reading_order n) ∙ ap some_weight (lightest_weight ms (balanced n) 0)
+    let marks = c.args.marks.now in
+    let before = c.loop-node.invariant.0 in
+    let none : remaining c.loop-node.node-iterator ≡ [] = c.in-None.ensures.steps.0 in
+    let same = rw none at before.2 in
+    before.1 ∙ ap some_weight (sym (lesser_none before.0) ∙ same ∙ lightest_weight marks (balanced (length marks)) 0)
