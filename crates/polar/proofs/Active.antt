@@ -75,6 +75,12 @@ module _ (marks : List Bool) (i : ℕ) (within : i < length marks) where
   rest : (m : Bool) → get_or marks i false ≡ m → drop i marks ≡ m ∷ drop (i + 1) marks
   rest m is = drop_more marks i false within ∙ ap (λ b. b ∷ drop (i + 1) marks) is
 
+  pub trues_at_active : get_or marks i false ≡ true → trues (drop i marks) ≡ suc (trues (drop (i + 1) marks))
+  trues_at_active is = ap trues (rest true is)
+
+  pub trues_at_frozen : get_or marks i false ≡ false → trues (drop i marks) ≡ trues (drop (i + 1) marks)
+  trues_at_frozen is = ap trues (rest false is)
+
   -- an active leaf takes the next of the data, 0 where there are none
   pub spread_at_active : (o : Option (Bor ℕ)) (s t : Iter ℕ) (label : Bool) → get_or marks i false ≡ true
       → MatchOption o ((length s.rest.now ≡ 0) × (t ≡ s)) (λ x. s.rest.now ≡ x.now ∷ t.rest.now) → MatchOption o (label ≡ false) (λ x. label ≡ bit x.now)

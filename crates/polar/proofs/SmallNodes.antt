@@ -57,6 +57,30 @@ pub four_label : (bits : List Bool) → length bits ≡ 4 → add_at 1 3 (add_at
 unfolding same_at each_word equal grown balanced
 four_label bits h = agree (λ w. add_at 1 3 (add_at 0 2 (add_at 2 3 (add_at 0 1 w)))) (label (balanced (length bits))) bits (rw h refl)
 
+pub two_unlabel : (bits : List Bool) → length bits ≡ 2 → add_at 0 1 bits ≡ unlabel (balanced (length bits)) bits
+unfolding grown balanced
+two_unlabel [] h = absurd (omega arith)
+two_unlabel (a ∷ []) h = absurd (omega arith)
+two_unlabel (a ∷ b ∷ []) h = refl
+two_unlabel (a ∷ b ∷ c ∷ rest) h = absurd (omega arith)
+
+pub three_unlabel : (bits : List Bool) → length bits ≡ 3 → add_at 0 1 (add_at 0 2 bits) ≡ unlabel (balanced (length bits)) bits
+unfolding grown balanced
+three_unlabel [] h = absurd (omega arith)
+three_unlabel (a ∷ []) h = absurd (omega arith)
+three_unlabel (a ∷ b ∷ []) h = absurd (omega arith)
+three_unlabel (a ∷ b ∷ c ∷ []) h = refl
+three_unlabel (a ∷ b ∷ c ∷ d ∷ rest) h = absurd (omega arith)
+
+pub four_unlabel : (bits : List Bool) → length bits ≡ 4 → add_at 2 3 (add_at 0 1 (add_at 1 3 (add_at 0 2 bits))) ≡ unlabel (balanced (length bits)) bits
+unfolding grown balanced
+four_unlabel [] h = absurd (omega arith)
+four_unlabel (a ∷ []) h = absurd (omega arith)
+four_unlabel (a ∷ b ∷ []) h = absurd (omega arith)
+four_unlabel (a ∷ b ∷ c ∷ []) h = absurd (omega arith)
+four_unlabel (a ∷ b ∷ c ∷ d ∷ []) h = refl
+four_unlabel (a ∷ b ∷ c ∷ d ∷ e ∷ rest) h = absurd (omega arith)
+
 -- whether each node of fewer than n leaves undoes itself
 undone_below : ℕ → Bool
 undone_below zero = true

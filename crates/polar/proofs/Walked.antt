@@ -40,10 +40,10 @@ pub turned_sum : (fs : List Frame) → turned fs ≡ sum_by turning fs
 turned_sum = is_sum_by turned turning refl (λ f fs. refl)
 
 -- the turns one node further down
-turned_more : (fs : List Frame) (d : ℕ) → d < length fs → turned (take (d + 1) fs) ≡ turned (take d fs) + turning (frame_at fs d)
+pub turned_more : (fs : List Frame) (d : ℕ) → d < length fs → turned (take (d + 1) fs) ≡ turned (take d fs) + turning (frame_at fs d)
 turned_more fs d h = rw (turned_sum (take (d + 1) fs), turned_sum (take d fs)) (sum_by_more turning fs d (fresh 0 0) h)
 
-turn_most : (d : Done) → turn_by d ≤ 1
+pub turn_most : (d : Done) → turn_by d ≤ 1
 turn_most Neither = omega arith
 turn_most Left = omega arith
 turn_most Both = omega arith
@@ -197,6 +197,31 @@ right_ahead_inner f long t = later_inner f.done f.len f.first t long
 append_none : {A : Type 0} (xs ys : List A) → xs ++ ys ≡ [] → (xs ≡ []) × (ys ≡ [])
 append_none [] ys none = (refl, none)
 append_none (x ∷ xs) ys none = absurd (nil≢cons (sym none))
+
+-- nothing is ahead: neither under the node at hand nor beside the way to it
+pub none_here : (fs : List Frame) (d : ℕ) → ahead fs d ≡ [] → todo (turned (take d fs)) (frame_at fs d) ≡ []
+none_here fs d none = (append_none (todo (turned (take d fs)) (frame_at fs d)) (pending 0 (take d fs)) none).0
+
+none_beside : (fs : List Frame) (d k : ℕ) → d ≤ length fs → k < d → pending 0 (take d fs) ≡ [] → later (turned (take k fs)) (frame_at fs k) ≡ []
+none_beside fs zero k long below none = absurd (omega arith)
+none_beside fs (suc d) k long below none =
+    let next : d + 1 ≡ suc d = omega arith in
+    let parts = append_none (later (turned (take d fs)) (frame_at fs d)) (pending 0 (take d fs))
+    (sym (pending_more fs d (omega arith)) ∙ ap (λ m. pending 0 (take m fs)) next ∙ none) in
+    ⊎_elim
+    (λ same. subst (λ j. later (turned (take j fs)) (frame_at fs j) ≡ []) (sym same) parts.0)
+    (λ apart. none_beside fs d k (omega arith) (omega arith) parts.1)
+    (cases_eq k d)
+
+pub none_later : (fs : List Frame) (d k : ℕ) → d ≤ length fs → k < d → ahead fs d ≡ [] → later (turned (take k fs)) (frame_at fs k) ≡ []
+none_later fs d k long below none =
+    none_beside fs d k long below
+    (append_none (todo (turned (take d fs)) (frame_at fs d)) (pending 0 (take d fs)) none).1
+
+-- nothing beside one node more of the way
+pub none_more : (fs : List Frame) (k : ℕ) → k < length fs → pending 0 (take k fs) ≡ [] → later (turned (take k fs)) (frame_at fs k) ≡ []
+    → pending 0 (take (k + 1) fs) ≡ []
+none_more fs k within none own = pending_more fs k within ∙ rw (own, none)
 
 -- beside the way lies what its nodes have on their right, and nothing else
 beside_none : (fs : List Frame) (t : ℕ) → All (λ f. RightAhead f false) fs → pending t fs ≡ []
