@@ -1,11 +1,13 @@
 // Rows of counts and of levels.
-ghost use Rattle.std.specs.Prelude.{◌≡◌, Ok};
+ghost use Rattle.std.specs.Prelude.{◌≡◌, ◌≤◌, ◌++◌, length, drop, Ok};
+ghost use Rattle.std.specs.Iterator.{IsFinite};
+ghost use Rattle.std.specs.Iterator.Runs.{EachRunFrom, WholeRun};
 ghost use Rattle.levels.specs.Level.{largest_count, exponent_of};
 ghost use Rattle.levels.specs.Rows.{all_are_numbers, AllWithin, RowExported, RowImported, RowsReturn};
 
 use super::Scale;
 use polar::refusal::Refusal;
-use polar::rows::{write_all, write_front};
+use polar::rows::{Items, write_items};
 
 impl Scale {
     // Writes the levels of the counts and answers how many; what follows them stays. A short output
@@ -40,7 +42,7 @@ impl Scale {
             .iter()
             .copied()
             .map(|level| self.nearest_count(level));
-        write_all(counts, nearest);
+        write_front(counts, nearest);
         Ok(())
     }
 }
@@ -50,4 +52,16 @@ pub fn all_numbers(levels: &[f32]) -> bool
     ensures { result ≡ all_are_numbers levels.now }
 {
     levels.iter().all(|level| !level.is_nan())
+}
+
+// Writes the items in order into the front of `out`, whose tail stays, and answers how many they are. (A literal of `Items` is proved
+// where the iterator's type is a parameter, and not where that type holds a closure.)
+fn write_front<T: Copy, I: Iterator<Item = T> + Drop>(out: &mut [T], items: I) -> usize
+    requires can { I.can_next items }
+    requires ends { IsFinite (I.remaining items) }
+    requires room { EachRunFrom I.next_gives items (λ p. p.len ≤ length out.old) }
+    ensures runs { WholeRun I.next_gives items (λ p. (result ≡ p.len) × (out.new ≡ p.items ++ drop p.len out.old)) }
+{
+    let most = out.len();
+    write_items(out, Items { chain: items, most }).unwrap()
 }
