@@ -6,3 +6,4 @@ pub mod comparing;
 pub mod reading;
 pub mod values;
 pub mod worst;
+mod writing;

@@ -4,7 +4,7 @@ ghost use Rattle.soft.specs.Counts.{counted, top_count};
 ghost use Rattle.analyser.specs.Reading.{erasure_of, AllSpeak};
 ghost use Rattle.std.proofs.Common.{rules};
 
-use polar::rows::write_all;
+use crate::writing::write_front;
 use soft::count::Count;
 use soft::erasure::Erasure;
 use soft::kind::{Listed, Soft};
@@ -53,7 +53,7 @@ pub(crate) fn put_values<K: Spoken>(counts: &[i16], values: &mut [K])
     requires { length values.old ≡ length counts.now }
     ensures { values.new ≡ map K.Spoken.spoken counts.now }
 {
-    write_all(
+    write_front(
         values,
         counts.iter().copied().map(|count| K::of_count(count)),
     );

@@ -10,11 +10,11 @@ ghost use Rattle.captures.specs.Tops.{top_count};
 ghost use Rattle.analyser.specs.Assurance.{LimitIsTight};
 ghost use Rattle.analyser.specs.Worst.{plan_weight, leaf_weight, FirstLightest, leaf_word, places_of, WorstPair};
 
+use crate::writing::write_front;
 use polar::bits::count_ones;
 use polar::code::encode;
 use polar::plan::{MAX_LENGTH, Plan};
 use polar::refusal::Refusal;
-use polar::rows::write_front;
 use polar::tree::children;
 
 // The right branches on the way to a leaf of a block of `len` symbols.

@@ -4,3 +4,4 @@
 pub mod exhaustive;
 mod pattern;
 pub mod shortcut;
+mod writing;

@@ -6,9 +6,9 @@ ghost use Rattle.scored_readers.specs.ShortcutRules.{shortcut_rules};
 
 use crate::exhaustive::score_word;
 use crate::pattern::Pattern;
+use crate::writing::write_front;
 use polar::bits::count_ones;
 use polar::labels::transform;
-use polar::rows::write_all;
 use readers::question::Question;
 use readers::reader::Reader;
 use readers::split::add_places;
@@ -80,7 +80,7 @@ fn decide_all<K: Soft>(values: &[K], out: &mut [bool])
     requires { length out.old ≡ length values.now }
     ensures { out.new ≡ map K.Soft.kind.decided values.now }
 {
-    write_all(out, values.iter().copied().map(|v| v.decide()));
+    write_front(out, values.iter().copied().map(|v| v.decide()));
 }
 
 // Decides each symbol, and turns the weakest one if their sum is odd.

@@ -10,10 +10,10 @@ ghost use Rattle.captures.specs.Calls.{Made};
 ghost use Rattle.captures.specs.Views.{captured};
 
 use crate::capture::{Capture, TOP};
+use crate::writing::write_front;
 use polar::code::encode;
 use polar::plan::{MAX_LENGTH, Plan};
 use polar::refusal::Refusal;
-use polar::rows::write_all;
 use std::alloc::{AllocError, Global};
 use storage::MAX_EXPONENT;
 
@@ -70,7 +70,7 @@ fn put_full_counts(word: &[u8], counts: &mut [i16])
     ensures { counts.new ≡ map (full top_count) (bits word.now) }
 {
     let bits = word.iter().copied().map(|b| b == 1);
-    write_all(counts, bits.map(full_count));
+    write_front(counts, bits.map(full_count));
 }
 
 // The count of a codeword bit.
