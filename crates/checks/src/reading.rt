@@ -1,7 +1,7 @@
 // Readers over lists of counts and of erasures.
 use polar::plan::Plan;
 use polar::refusal::Refusal;
-use polar::rows::write_front;
+use polar::rows::{Items, write_items};
 use readers::leaf::Leaf;
 use readers::lists::{read_list, shortfall};
 use readers::reader::Reader;
@@ -14,11 +14,18 @@ use std::test::Fail;
 
 // The data that a pile reads of counts, as a number with the first datum highest, behind a 1.
 fn data_of<R: Reader<Count>>(pile: &R, plan: &Plan, counts: &[i16]) -> Result<u32, Refusal> {
-    let mut values = [Count(0); 8];
+    let mut row = [0; 8];
     if counts.len() > 8 {
         return Err(Refusal::ItemCount);
     }
-    write_front(&mut values, counts.iter().copied().map(Count::from));
+    write_items(
+        &mut row,
+        Items {
+            chain: counts.iter().copied(),
+            most: counts.len(),
+        },
+    )?;
+    let values = row.map(Count::from);
     let mut soft = [Count(0); 256];
     let mut bits = [false; 256];
     let mut data = [7u8; 8];
