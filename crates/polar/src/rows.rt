@@ -47,7 +47,7 @@ pub fn write_items<T: Copy, I: Iterator<Item = T> + Drop>(
 
 // Writes the items in order into the front of `out`, whose tail stays, and answers how many they are.
 // (The one loop that counts its place, on behalf of all rows: the proof knows nothing of what an adapter of `iter_mut` wrote.)
-pub fn write_front<T: Copy, I: Iterator<Item = T> + Drop>(
+pub(crate) fn write_front<T: Copy, I: Iterator<Item = T> + Drop>(
     out: &mut [T],
     mut items: I,
 ) -> usize
@@ -65,7 +65,7 @@ pub fn write_front<T: Copy, I: Iterator<Item = T> + Drop>(
 }
 
 // Replaces a whole row by as many items.
-pub fn write_all<T: Copy, I: Iterator<Item = T> + Drop>(out: &mut [T], items: I)
+pub(crate) fn write_all<T: Copy, I: Iterator<Item = T> + Drop>(out: &mut [T], items: I)
     requires can { I.can_next items }
     requires ends { IsFinite (I.remaining items) }
     requires room { EachRunFrom I.next_gives items (λ p. p.len ≤ length out.old) }
