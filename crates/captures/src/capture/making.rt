@@ -41,10 +41,7 @@ impl Capture {
         }
         // (Local rows, which take no memory; the slices carry the length.)
         let mut word = [0u8; MAX_LENGTH];
-        // (Not by `?`: the second row would be cleared twice.)
-        if let Err(refusal) = encode(plan, data, &mut word) {
-            return Err(refusal);
-        }
+        encode(plan, data, &mut word)?;
         let mut room = [0i16; MAX_LENGTH];
         let counts = &mut room[0..plan.length()];
         put_full_counts(&word[0..plan.length()], counts);

@@ -1,4 +1,4 @@
-use Rattle.std.proofs.Common.{◌≡◌, ℕ, ◌-◌, ◌≤◌, false, ltb, map, length, take, sym, refl, ap, ◌∙◌, subst, arith}
+use Rattle.std.proofs.Common.{◌≡◌, ℕ, ◌-◌, ◌≤◌, false, ltb, map, length, take, sym, ap, ◌∙◌, subst, arith}
 use native.Mathlib.Nat.{sub-zero}
 use Rattle.std.proofs.lemmas.Bool.{le-ltb}
 use Rattle.polar.specs.Bytes.{bits, bytes}
@@ -28,7 +28,7 @@ counts_are c =
     let plan = c.args.plan.now in
     let w = codeword (marks_of plan) (bits c.args.«data».now) in
     let n = c.length-2.result in
-    let done = c.in_default.ensures.value.1 in
+    let done = c.in_ok-encode.ensures.value.1 in
     let front : take (n - 0) c.encode.new.out ≡ bytes w =
     ap (λ k. take k c.encode.new.out) (sub-zero n) ∙ ap (take n) done.1 ∙ front_bytes w _ n (length_codeword (marks_of plan) (bits c.args.«data».now) (sized plan).0 ∙ sym c.length-2.ensures) in
     c.put_full_counts.ensures ∙ ap (λ word. map (full top_count) (bits word)) front ∙ ap (map (full top_count)) (bits_bytes w)
@@ -38,10 +38,7 @@ replace-requires-clause-within c =
     let w = codeword (marks_of c.args.plan.now) (bits c.args.«data».now) in
     subst (WithinTop top_count) (sym (counts_are (goal.at.replace-requires-clause-within c).After-put_full_counts)) (within_from_all top_count (map (full top_count) w) (full_within top_count w))
 
-pub returns-in-Err : goal.returns-in-Err
-returns-in-Err c = (dues_agree (goal.at.returns-in-Err c).Else-exponent-gt-MAX_EXPONENT ∙ c.in-Err.ensures.value.0, refl)
-
 pub returns : goal.returns
 returns c =
     let at = (goal.at.returns c).After-put_full_counts in
-    (dues_agree (goal.at.returns c).Else-exponent-gt-MAX_EXPONENT ∙ c.in_default.ensures.value.0, c.replace.ensures ∙ ap (λ ms. capture_of ms c.put_full_counts.new.counts c.args.exponent) c.marks.ensures ∙ ap (λ counts. capture_of (marks_of c.args.plan.now) counts c.args.exponent) (counts_are at))
+    (dues_agree (goal.at.returns c).Else-exponent-gt-MAX_EXPONENT ∙ c.in_ok-encode.ensures.value.0, c.replace.ensures ∙ ap (λ ms. capture_of ms c.put_full_counts.new.counts c.args.exponent) c.marks.ensures ∙ ap (λ counts. capture_of (marks_of c.args.plan.now) counts c.args.exponent) (counts_are at))
